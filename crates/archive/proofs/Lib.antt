@@ -1,0 +1,3 @@
+pub mod Suiting
+pub mod Ordering
+pub mod Agreeing

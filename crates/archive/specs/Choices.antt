@@ -1,0 +1,8 @@
+use Prim.Native.Nat.{ℕ}
+use mathlib.Core.Bool.{Bool, _&&_}
+use lib.Dec.{eqb}
+use Rattle.archive.specs.declared.Choice.{Choice}
+
+-- x is the choice c:r
+abbrev pub names : Choice → ℕ → ℕ → Bool
+names x c r = eqb (x .component) c && eqb (x .release) r

@@ -1,0 +1,33 @@
+ghost use Prim.Native.Nat.{ℕ};
+ghost use mathlib.Core.Path.{_≡_};
+ghost use Rattle.archive.specs.Meaning.{Meaning, Sound};
+
+pub mod sets;
+
+// A component with one of its releases, both numbered from 0, releases oldest first.
+#[derive(Clone, Copy, PartialEq, Eq, Debug)]
+pub struct Choice {
+    pub component: u8,
+    pub release: u8,
+}
+
+// An archive is asked four questions, with any bytes; asking changes nothing, and the answers are its meaning's.
+pub trait Archive {
+    ghost meaning: { Self → Meaning };
+
+    law sound: { (s : Self) → Sound (meaning s) };
+
+    // How many components there are, at most 64.
+    fn components(&self) -> u8
+        ensures { λ r. ⌜ r ≡ meaning (now (self .entry)) .components ⌝ };
+
+    // How many releases a component has, at most 32.
+    fn releases(&self, component: u8) -> u8
+        ensures { λ r. ⌜ r ≡ meaning (now (self .entry)) .releases component ⌝ };
+
+    fn withdrawn(&self, x: Choice) -> bool
+        ensures { λ r. ⌜ r ≡ meaning (now (self .entry)) .withdrawn (x .component) (x .release) ⌝ };
+
+    fn clash(&self, x: Choice, y: Choice) -> bool
+        ensures { λ r. ⌜ r ≡ meaning (now (self .entry)) .clash (x .component) (x .release) (y .component) (y .release) ⌝ };
+}

@@ -1,0 +1,70 @@
+ghost use Prim.Native.Nat.{_<_, _≤_};
+ghost use mathlib.Core.Path.{_≡_};
+ghost use mathlib.Core.List.{_∷_, [], _++_};
+ghost use lib.ListN.{length, take};
+ghost use Rattle.std.specs.Orderings.{When};
+ghost use Rattle.std.specs.shelf.Lists.{removed};
+ghost use Rattle.tables.specs.Held.{held};
+
+pub mod table;
+use table::Table;
+
+impl<T: Copy, const N: usize> Table<T, N> {
+    // No rows; the filler stands in the cells that are not in use.
+    pub fn empty(filler: T) -> Self
+        ensures { λ r. ⌜ held r ≡ [] ⌝ }
+    {
+        Table {
+            cells: [filler; N],
+            filled: 0,
+        }
+    }
+
+    // The first N of the given rows.
+    pub fn of(rows: &[T], filler: T) -> Self
+        ensures { λ r. ⌜ held r ≡ take N (now (rows .entry)) ⌝ }
+    {
+        let mut table = Table::empty(filler);
+        for row in rows {
+            if !table.push(*row) {
+                break;
+            }
+        }
+        table
+    }
+
+    pub fn rows(&self) -> &[T]
+        ensures value { λ r. ⌜ now r ≡ held (now (self .entry)) ⌝ }
+        ensures bound { λ r. ⌜ length (now r) ≤ N ⌝ }
+    {
+        let cells = &self.cells[..];
+        &cells[0..self.filled]
+    }
+
+    // One row more at the end; false, and nothing changed, where the table is full.
+    pub fn push(&mut self, row: T) -> bool
+        ensures { λ r. ⌜ When r ((length (held (now (self .entry))) < N) × (held (now (self .exit)) ≡ held (now (self .entry)) ++ row ∷ [])) ((length (held (now (self .entry))) ≡ N) × (held (now (self .exit)) ≡ held (now (self .entry)))) ⌝ }
+    {
+        if self.filled >= N {
+            return false;
+        }
+        self.cells[self.filled] = row;
+        self.filled += 1;
+        true
+    }
+
+    // Takes the row at a place out, and closes the gap; false, and nothing changed, where no row is there.
+    pub fn remove(&mut self, at: usize) -> bool
+        ensures { λ r. ⌜ When r ((at < length (held (now (self .entry)))) × (held (now (self .exit)) ≡ removed (held (now (self .entry))) at)) ((length (held (now (self .entry))) ≤ at) × (held (now (self .exit)) ≡ held (now (self .entry)))) ⌝ }
+    {
+        if at >= self.filled {
+            return false;
+        }
+        let end = self.filled;
+        for k in at + 1..end {
+            self.cells[k - 1] = self.cells[k];
+        }
+        self.filled = end - 1;
+        true
+    }
+}
