@@ -1,3 +1,4 @@
 pub mod Suiting
 pub mod Ordering
 pub mod Agreeing
+pub mod Naming

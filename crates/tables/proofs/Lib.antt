@@ -1,2 +1,3 @@
+pub mod Anys
 pub mod Gaps
 pub mod Rows

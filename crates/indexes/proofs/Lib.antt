@@ -1,0 +1,4 @@
+pub mod Offering
+pub mod Counting
+pub mod Ranging
+pub mod Pairing

@@ -1,0 +1,12 @@
+use mathlib.Core.Path.{sym}
+use Rattle.tables.proofs.Anys.{any-hit, any-miss, any-all}
+use Rattle.indexes.proofs.range.parted.Needs as need
+
+pub returns-then-parts : need.returns-then-parts
+returns-then-parts c = sym (any-hit _ _ _ _ (c .loop-row-test .taken) (sym (c .if-parts .ensures tt)))
+
+pub loop-row-again : need.loop-row-again
+loop-row-again c = any-miss _ _ _ _ (c .loop-row-test .taken) (c .loop-row .inv) (sym (c .if-parts .ensures tt))
+
+pub returns : need.returns
+returns c = sym (any-all _ _ _ (c .loop-row-test .left) (c .loop-row .inv))

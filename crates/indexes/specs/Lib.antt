@@ -1,0 +1,3 @@
+pub mod Components
+pub mod Ranges
+pub mod Pairs

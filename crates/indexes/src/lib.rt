@@ -1,0 +1,3 @@
+pub mod components;
+pub mod pair;
+pub mod range;
