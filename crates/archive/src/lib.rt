@@ -2,14 +2,11 @@ ghost use Prim.Native.Nat.{ℕ};
 ghost use mathlib.Core.Path.{_≡_};
 ghost use Rattle.archive.specs.Meaning.{Meaning, Sound};
 
+pub mod choice;
+pub mod order;
 pub mod sets;
 
-// A component with one of its releases, both numbered from 0, releases oldest first.
-#[derive(Clone, Copy, PartialEq, Eq, Debug)]
-pub struct Choice {
-    pub component: u8,
-    pub release: u8,
-}
+use choice::Choice;
 
 // An archive is asked four questions, with any bytes; asking changes nothing, and the answers are its meaning's.
 pub trait Archive {

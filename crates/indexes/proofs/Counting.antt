@@ -31,12 +31,6 @@ and-swap true false = refl
 and-swap false true = refl
 and-swap false false = refl
 
-pub or-swap : (x y : Bool) → (x || y) ≡ (y || x)
-or-swap true true = refl
-or-swap true false = refl
-or-swap false true = refl
-or-swap false false = refl
-
 -- an index whose rows make choices clash: which rows count, and which touch both of two choices
 pub record Rows (X : Type 0) (rows : List ComponentRow) (counts : X → Bool) (touches : ℕ → ℕ → ℕ → ℕ → X → Bool) : Type 0 where
   pub own : (c i j : ℕ) (x : X) → touches c i c j x ≡ true → counts x ≡ false

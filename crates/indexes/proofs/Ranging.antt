@@ -9,13 +9,13 @@ use lib.ListN.{length, take}
 use Rattle.std.specs.Orderings.{Decides}
 use Rattle.std.proofs.shelf.Tests.{and-from, and-right, lt-ltb, leb-true, le-leb, eq-eqb, ne-eqb, not-from-true, not-from-false}
 use Rattle.std.proofs.shelf.Ways.{decides-and, decides-or, decides-eqb, decides-not}
-use Rattle.archive.proofs.Naming.{names-decides}
+use Rattle.archive.proofs.Naming.{names-decides, or-swap}
 use Rattle.indexes.specs.Components.{offers}
 use Rattle.indexes.specs.Ranges.{needs-count, leaves-out, parts, Leaves-out, Clash-by-ranges}
 use Rattle.indexes.specs.declared.components.ComponentRow.{ComponentRow}
 use Rattle.indexes.specs.declared.range.NeedsRow.{NeedsRow}
 use Rattle.indexes.proofs.Offering.{offered-row}
-use Rattle.indexes.proofs.Counting.{Rows, or-swap, clash-decides}
+use Rattle.indexes.proofs.Counting.{Rows, clash-decides}
 
 decides-leb : (a b : ℕ) → Decides (leb a b) (a ≤ b)
 decides-leb a b = (leb-true a b, le-leb a b)

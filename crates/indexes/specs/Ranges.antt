@@ -12,6 +12,8 @@ use Rattle.tables.specs.Any.{any, Some-row}
 use Rattle.indexes.specs.Components.{offers, indexed}
 use Rattle.indexes.specs.declared.components.ComponentRow.{ComponentRow}
 use Rattle.indexes.specs.declared.range.NeedsRow.{NeedsRow}
+use Rattle.indexes.specs.declared.range.RangeIndex.{RangeIndex}
+use Rattle.tables.specs.Held.{held}
 
 -- the row counts: its choice and the other component are offered, and are of two components
 abbrev pub needs-count : List ComponentRow → NeedsRow → Bool
@@ -28,6 +30,9 @@ parts a i b j n = leaves-out n a i b j || leaves-out n b j a i
 -- what a range index means that holds these rows
 abbrev pub by-ranges : List ComponentRow → List NeedsRow → Meaning
 by-ranges rows needs = indexed rows (λ a i b j. any (λ n. needs-count rows n && parts a i b j n) needs)
+
+abbrev pub range-means : RangeIndex → Meaning
+range-means x = by-ranges (held (x .components .rows)) (held (x .needs))
 
 -- what a range index means that is made from these rows: 64 component rows and 512 needs rows count
 abbrev pub range-meaning : List ComponentRow → List NeedsRow → Meaning

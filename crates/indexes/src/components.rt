@@ -3,7 +3,7 @@ ghost use mathlib.Core.Path.{_≡_};
 ghost use lib.ListN.{length, take};
 ghost use Rattle.indexes.specs.Components.{releases-of, offers, withdraws};
 ghost use Rattle.tables.specs.Held.{held};
-use archive::Choice;
+use archive::choice::Choice;
 use tables::table::Table;
 
 // How many components an index has room for.

@@ -1,11 +1,10 @@
 // The pair index: which two choices clash, pair by pair.
 ghost use mathlib.Core.Path.{_≡_};
-ghost use Rattle.indexes.specs.Pairs.{names-in-order, names-both, by-pairs, pair-meaning, Clash-by-pairs};
+ghost use Rattle.indexes.specs.Pairs.{joins, pair-means, pair-meaning, Clash-by-pairs};
 ghost use Rattle.tables.specs.Any.{any};
-ghost use Rattle.tables.specs.Held.{held};
 use archive::Archive;
-use archive::Choice;
-use archive::ChoicePartialEq;
+use archive::choice::Choice;
+use archive::choice::same_pair;
 use super::components::ComponentRow;
 use super::components::ComponentTable;
 use tables::table::Table;
@@ -20,20 +19,6 @@ pub struct PairRow {
     pub second: Choice,
 }
 
-impl PairRow {
-    fn names_in_order(&self, x: Choice, y: Choice) -> bool
-        ensures { λ r. ⌜ r ≡ names-in-order (now (self .entry)) (x .component) (x .release) (y .component) (y .release) ⌝ }
-    {
-        self.first == x && self.second == y
-    }
-
-    fn names_both(&self, x: Choice, y: Choice) -> bool
-        ensures { λ r. ⌜ r ≡ names-both (x .component) (x .release) (y .component) (y .release) (now (self .entry)) ⌝ }
-    {
-        self.names_in_order(x, y) || self.names_in_order(y, x)
-    }
-}
-
 #[derive(Drop)]
 pub struct PairIndex {
     components: ComponentTable,
@@ -43,7 +28,7 @@ pub struct PairIndex {
 impl PairIndex {
     // Keeps the first 64 component rows and the first 1,024 pair rows.
     pub fn new(components: &[ComponentRow], pairs: &[PairRow]) -> Self
-        ensures value { λ r. ⌜ by-pairs (held (r .components .rows)) (held (r .pairs)) ≡ pair-meaning (now (components .entry)) (now (pairs .entry)) ⌝ }
+        ensures value { λ r. ⌜ pair-means r ≡ pair-meaning (now (components .entry)) (now (pairs .entry)) ⌝ }
         ensures clash { λ _. ⌜ Clash-by-pairs (now (components .entry)) (now (pairs .entry)) ⌝ }
     {
         let none = Choice {
@@ -63,10 +48,10 @@ impl PairIndex {
 
 // Whether some row names both choices.
 fn joined(rows: &[PairRow], x: Choice, y: Choice) -> bool
-    ensures { λ r. ⌜ r ≡ any (names-both (x .component) (x .release) (y .component) (y .release)) (now (rows .entry)) ⌝ }
+    ensures { λ r. ⌜ r ≡ any (joins (x .component) (x .release) (y .component) (y .release)) (now (rows .entry)) ⌝ }
 {
     for row in rows {
-        if row.names_both(x, y) {
+        if same_pair(row.first, row.second, x, y) {
             return true;
         }
     }
@@ -74,7 +59,7 @@ fn joined(rows: &[PairRow], x: Choice, y: Choice) -> bool
 }
 
 pub impl Archive for PairIndex as PairArchive {
-    ghost meaning = { λ s. by-pairs (held (s .components .rows)) (held (s .pairs)) };
+    ghost meaning = { pair-means };
 
     fn components(&self) -> u8 {
         self.components.count()

@@ -1,11 +1,10 @@
 // The range index: what a release needs of another component.
 ghost use mathlib.Core.Path.{_≡_};
-ghost use Rattle.indexes.specs.Ranges.{leaves-out, parts, by-ranges, range-meaning, Clash-by-ranges};
+ghost use Rattle.indexes.specs.Ranges.{leaves-out, parts, range-means, range-meaning, Clash-by-ranges};
 ghost use Rattle.tables.specs.Any.{any};
-ghost use Rattle.tables.specs.Held.{held};
 use archive::Archive;
-use archive::Choice;
-use archive::ChoicePartialEq;
+use archive::choice::Choice;
+use archive::choice::ChoicePartialEq;
 use super::components::ComponentRow;
 use super::components::ComponentTable;
 use tables::table::Table;
@@ -47,7 +46,7 @@ pub struct RangeIndex {
 impl RangeIndex {
     // Keeps the first 64 component rows and the first 512 needs rows.
     pub fn new(components: &[ComponentRow], needs: &[NeedsRow]) -> Self
-        ensures value { λ r. ⌜ by-ranges (held (r .components .rows)) (held (r .needs)) ≡ range-meaning (now (components .entry)) (now (needs .entry)) ⌝ }
+        ensures value { λ r. ⌜ range-means r ≡ range-meaning (now (components .entry)) (now (needs .entry)) ⌝ }
         ensures clash { λ _. ⌜ Clash-by-ranges (now (components .entry)) (now (needs .entry)) ⌝ }
     {
         let filler = NeedsRow {
@@ -79,7 +78,7 @@ fn parted(rows: &[NeedsRow], x: Choice, y: Choice) -> bool
 }
 
 pub impl Archive for RangeIndex as RangeArchive {
-    ghost meaning = { λ s. by-ranges (held (s .components .rows)) (held (s .needs)) };
+    ghost meaning = { range-means };
 
     fn components(&self) -> u8 {
         self.components.count()

@@ -4,6 +4,8 @@ use mathlib.Core.Bool.{cond}
 use mathlib.Core.List.{List, [], _∷_}
 use mathlib.Core.Logic.{_⊎_}
 use lib.Dec.{eqb}
+use Rattle.std.specs.declared.result.Result.{Result}
+use Rattle.std.specs.declared.result.Result.the-variants.{Ok, Err}
 use Rattle.refusals.specs.declared.Refusal.{Refusal}
 use Rattle.refusals.specs.declared.Refusal.the-variants.{ProposalStands, TicketMismatch, NoProposal, NotOffered, OneComponent, AlreadyFiled, NotFiled, NoticesFull, LedgerFull, NoLawfulSet, WrongLength, UnusableFile, MalformedRecord, MalformedName, MalformedVersion, WrongKind, ReleaseOutOfOrder, TableFull, UnknownNeed, NeedsItself, ManifestMismatch}
 
@@ -60,6 +62,11 @@ pub record Declines (Sentences : Refusal → Type 0) (e : Refusal) : Type 0 wher
 -- a call with these sentences is accepted: none of them holds
 abbrev pub Accepts : (Refusal → Type 0) → Type 0
 Accepts Sentences = (e : Refusal) → Sentences e → ⊥
+
+-- how a call with these sentences ends: accepted, with what it makes, or declined, with everything as it was
+abbrev pub Ends : {T : Type 0} → (Refusal → Type 0) → (T → Type 0) → Type 0 → Result T Refusal → Type 0
+Ends Sentences Made Same (Ok x) = Accepts Sentences × Made x
+Ends Sentences Made Same (Err e) = Declines Sentences e × Same
 
 -- no two refusals have one number
 abbrev pub Numbers-tell-apart : Type 0

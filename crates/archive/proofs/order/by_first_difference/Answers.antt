@@ -3,7 +3,7 @@ use mathlib.Core.Path.{_≡_, _∙_}
 use native.Mathlib.Omega.{arith}
 use lib.ListN.{length}
 use Rattle.std.proofs.shelf.Lists.{same-lists, getD-default}
-use Rattle.archive.proofs.sets.by_first_difference.Needs as need
+use Rattle.archive.proofs.order.by_first_difference.Needs as need
 
 pub returns : need.returns
 returns c =

@@ -1,6 +1,6 @@
 use mathlib.Core.Path.{sym}
 use Rattle.std.proofs.shelf.Lists.{getD-default, getD-past}
-use Rattle.archive.proofs.sets.pin_at.Needs as need
+use Rattle.archive.proofs.order.pin_at.Needs as need
 
 pub returns-then-component-pins : need.returns-then-component-pins
 returns-then-component-pins c = getD-default _ _ 0 255 (c .if-component-pins .taken)
