@@ -2,11 +2,11 @@
 ghost use mathlib.Core.Path.{_≡_};
 ghost use Rattle.indexes.specs.Pairs.{joins, pair-means, pair-meaning, Clash-by-pairs};
 ghost use Rattle.tables.specs.Any.{any};
+use super::components::ComponentRow;
+use super::components::ComponentTable;
 use archive::Archive;
 use archive::choice::Choice;
 use archive::choice::same_pair;
-use super::components::ComponentRow;
-use super::components::ComponentTable;
 use tables::table::Table;
 
 // How many pair rows an index has room for.

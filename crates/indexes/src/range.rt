@@ -2,11 +2,11 @@
 ghost use mathlib.Core.Path.{_≡_};
 ghost use Rattle.indexes.specs.Ranges.{leaves-out, parts, range-means, range-meaning, Clash-by-ranges};
 ghost use Rattle.tables.specs.Any.{any};
+use super::components::ComponentRow;
+use super::components::ComponentTable;
 use archive::Archive;
 use archive::choice::Choice;
 use archive::choice::ChoicePartialEq;
-use super::components::ComponentRow;
-use super::components::ComponentTable;
 use tables::table::Table;
 
 // How many needs rows an index has room for.
@@ -26,7 +26,9 @@ impl NeedsRow {
     fn leaves_out(&self, x: Choice, y: Choice) -> bool
         ensures { λ r. ⌜ r ≡ leaves-out (now (self .entry)) (x .component) (x .release) (y .component) (y .release) ⌝ }
     {
-        self.choice == x && self.other == y.component && !(self.low <= y.release && y.release <= self.high)
+        self.choice == x
+            && self.other == y.component
+            && !(self.low <= y.release && y.release <= self.high)
     }
 
     // Whether it is a row of either choice that leaves the other out.

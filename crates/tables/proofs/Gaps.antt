@@ -32,8 +32,7 @@ closing-more {X} xs a k ys d h l m (front, back) =
     let e : k + 1 - 1 ≡ k - 1 + 1 = omega arith in
     let i : k - 1 < length ys = omega arith in
     let j : k - 1 < k + 1 = omega arith in
-    let n : a < length (take k xs) = simp length-take (omega arith) in
-    (
+    let n : a < length (take k xs) = simp length-take (omega arith) in (
       ap (λ z. take z (set ys (k - 1) v)) e ∙ take-more-set ys (k - 1) v i ∙ ap (λ z. z ++ v ∷ []) front ∙ ap (λ z. removed (take k xs) a ++ z ∷ []) same ∙ sym (removed-push (take k xs) a (getD xs k d) n) ∙ sym (ap (λ z. removed z a) (take-more xs k d l)),
       drop-set-lt (k + 1) ys (k - 1) v j ∙ sym (drop-drop 1 k ys) ∙ ap (drop 1) back ∙ drop-drop 1 k xs,
     )

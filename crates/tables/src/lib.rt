@@ -7,6 +7,7 @@ ghost use Rattle.std.specs.shelf.Lists.{removed};
 ghost use Rattle.tables.specs.Held.{held};
 
 pub mod table;
+
 use table::Table;
 
 impl<T: Copy, const N: usize> Table<T, N> {

@@ -1,0 +1,3 @@
+pub mod Declining
+pub mod Layering
+pub mod Lifting

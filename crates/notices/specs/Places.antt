@@ -1,0 +1,15 @@
+use Prim.Native.Nat.{ℕ, _<_}
+use mathlib.Core.Path.{_≡_}
+use mathlib.Core.Bool.{true, false}
+use mathlib.Core.List.{List}
+use lib.ListN.{length}
+use Rattle.std.specs.declared.option.Option.{Option}
+use Rattle.std.specs.declared.option.Option.the-variants.{Some, None}
+use Rattle.std.specs.shelf.Lists.{removed}
+use Rattle.notices.specs.Notices.{filed, lifted}
+use Rattle.notices.specs.declared.notice.Notice.{Notice}
+
+-- where a notice stands among those filed: the place from which lifting takes it
+abbrev pub Place : List Notice → Notice → Option ℕ → Type 0
+Place ns n None = filed ns n ≡ false
+Place ns n (Some k) = (filed ns n ≡ true) × (k < length ns) × (lifted n ns ≡ removed ns k)

@@ -1,0 +1,171 @@
+// A tour of the archives: two indexes that mean the same, and a notice layer on one of them.
+use archive::Archive;
+use archive::choice::Choice;
+use archive::order::NO_PIN;
+use archive::order::compare;
+use archive::sets::lawful;
+use indexes::components::ComponentRow;
+use indexes::pair::PairArchive;
+use indexes::pair::PairIndex;
+use indexes::pair::PairRow;
+use indexes::range::NeedsRow;
+use indexes::range::RangeArchive;
+use indexes::range::RangeIndex;
+use notices::layer::LayerArchive;
+use notices::layer::NoticeLayer;
+use notices::notice::Notice;
+use refusals::Refusal;
+use std::cmp::Ordering;
+use std::io;
+
+const BOOT: u8 = 0;
+
+const RADIO: u8 = 1;
+
+const SHELL: u8 = 2;
+
+// The sets that the tour asks about: the releases of boot, radio and shell.
+const SETS: [[u8; 3]; 8] = [
+    [0, 1, 0],
+    [1, 1, 0],
+    [0, 2, 0],
+    [1, 2, 0],
+    [1, 2, 1],
+    [1, 1, 1],
+    [1, 0, 0],
+    [1, 2, 2],
+];
+
+fn choice(component: u8, release: u8) -> Choice {
+    Choice { component, release }
+}
+
+// Boot and shell have two releases, radio has three, the oldest of them withdrawn.
+fn components() -> [ComponentRow; 3] {
+    let mut radio = [false; 32];
+    radio[0] = true;
+    let two = ComponentRow {
+        releases: 2,
+        withdrawn: [false; 32],
+    };
+    let three = ComponentRow {
+        releases: 3,
+        withdrawn: radio,
+    };
+    [two, three, two]
+}
+
+fn by_ranges() -> RangeIndex {
+    let radio_needs = NeedsRow {
+        choice: choice(RADIO, 2),
+        other: BOOT,
+        low: 1,
+        high: 1,
+    };
+    let shell_needs = NeedsRow {
+        choice: choice(SHELL, 1),
+        other: RADIO,
+        low: 2,
+        high: 2,
+    };
+    RangeIndex::new(&components(), &[radio_needs, shell_needs])
+}
+
+fn pair(first: Choice, second: Choice) -> PairRow {
+    PairRow { first, second }
+}
+
+fn by_pairs() -> PairIndex {
+    let pairs = [
+        pair(choice(RADIO, 2), choice(BOOT, 0)),
+        pair(choice(RADIO, 0), choice(SHELL, 1)),
+        pair(choice(SHELL, 1), choice(RADIO, 1)),
+    ];
+    PairIndex::new(&components(), &pairs)
+}
+
+fn verdict(yes: bool) -> &'static str {
+    if yes { "lawful" } else { "not lawful" }
+}
+
+fn print_table(
+    rt: &impl Print,
+    ranges: &RangeIndex,
+    pairs: &PairIndex,
+    layer: &NoticeLayer<PairIndex>,
+) -> io::Result<()> {
+    println!(rt, "{:<6}  {:<10}  {:<10}  layer", "set", "ranges", "pairs")?;
+    for [a, b, c] in SETS {
+        let set = [a, b, c];
+        let by_range = verdict(lawful(ranges, &set));
+        let by_pair = verdict(lawful(pairs, &set));
+        let by_layer = verdict(lawful(layer, &set));
+        println!(
+            rt,
+            "{a} {b} {c}   {by_range:<10}  {by_pair:<10}  {by_layer}"
+        )?;
+    }
+    Ok(())
+}
+
+fn print_answer(rt: &impl Print, call: &str, answer: Result<(), Refusal>) -> io::Result<()> {
+    match answer {
+        Ok(()) => println!(rt, "{call}: done"),
+        Err(refusal) => {
+            let number = refusal.number();
+            println!(rt, "{call}: refusal {number}")
+        }
+    }
+}
+
+fn print_order(rt: &impl Print, pinned: &str, pins: &[u8], s: &[u8], t: &[u8]) -> io::Result<()> {
+    let word = match compare(pins, s, t) {
+        Some(Ordering::Less) => "comes before",
+        Some(Ordering::Equal) => "is",
+        Some(Ordering::Greater) => "comes after",
+        None => "differs in length from",
+    };
+    println!(rt, "{pinned}: {s:?} {word} {t:?}")
+}
+
+fn main(rt: LibcRuntime) -> io::Result<()> {
+    let ranges = by_ranges();
+    let pairs = by_pairs();
+    let mut layer = NoticeLayer::over(by_pairs());
+    println!(
+        rt,
+        "boot has releases 0 and 1, radio 0 (withdrawn), 1 and 2, shell 0 and 1"
+    )?;
+    println!(rt, "radio 2 needs boot 1, and shell 1 needs radio 2")?;
+    print_table(&rt, &ranges, &pairs, &layer)?;
+
+    let notice = Notice::Pair(choice(SHELL, 1), choice(BOOT, 1));
+    print_answer(&rt, "file shell 1 with boot 1", layer.file(notice))?;
+    let turned = Notice::Pair(choice(BOOT, 1), choice(SHELL, 1));
+    print_answer(&rt, "file boot 1 with shell 1", layer.file(turned))?;
+    print_answer(
+        &rt,
+        "file radio 3",
+        layer.file(Notice::Single(choice(RADIO, 3))),
+    )?;
+    print_table(&rt, &ranges, &pairs, &layer)?;
+
+    print_answer(&rt, "lift boot 1 with shell 1", layer.lift(turned))?;
+    print_answer(&rt, "lift it again", layer.lift(turned))?;
+    print_table(&rt, &ranges, &pairs, &layer)?;
+
+    print_order(
+        &rt,
+        "no pins",
+        &[NO_PIN, NO_PIN, NO_PIN],
+        &[0, 1, 0],
+        &[1, 1, 0],
+    )?;
+    print_order(
+        &rt,
+        "boot pinned at 0",
+        &[0, NO_PIN, NO_PIN],
+        &[0, 1, 0],
+        &[1, 1, 0],
+    )
+}
