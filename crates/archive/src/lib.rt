@@ -8,6 +8,12 @@ pub mod sets;
 
 use choice::Choice;
 
+// How many components an archive has at most.
+pub const MAX_COMPONENTS: usize = 64;
+
+// How many releases a component has at most.
+pub const MAX_RELEASES: usize = 32;
+
 // An archive is asked four questions, with any bytes; asking changes nothing, and the answers are its meaning's.
 pub trait Archive {
     ghost meaning: { Self → Meaning };

@@ -3,25 +3,21 @@ ghost use mathlib.Core.Path.{_≡_};
 ghost use lib.ListN.{length, take};
 ghost use Rattle.indexes.specs.Components.{releases-of, offers, withdraws};
 ghost use Rattle.tables.specs.Held.{held};
+use archive::MAX_COMPONENTS;
+use archive::MAX_RELEASES;
 use archive::choice::Choice;
 use tables::table::Table;
-
-// How many components an index has room for.
-pub const COMPONENTS: usize = 64;
-
-// How many releases of a component count.
-pub const RELEASES: u8 = 32;
 
 // A component: how many releases it has, and which of them are withdrawn.
 #[derive(Clone, Copy)]
 pub struct ComponentRow {
     pub releases: u8,
-    pub withdrawn: [bool; 32],
+    pub withdrawn: [bool; MAX_RELEASES],
 }
 
 #[derive(Drop)]
-pub struct ComponentTable {
-    rows: Table<ComponentRow, COMPONENTS>,
+pub(crate) struct ComponentTable {
+    rows: Table<ComponentRow, MAX_COMPONENTS>,
 }
 
 impl ComponentTable {
@@ -30,7 +26,7 @@ impl ComponentTable {
     {
         let filler = ComponentRow {
             releases: 0,
-            withdrawn: [false; 32],
+            withdrawn: [false; MAX_RELEASES],
         };
         ComponentTable {
             rows: Table::of(rows, filler),
@@ -49,7 +45,7 @@ impl ComponentTable {
         let rows = self.rows.rows();
         let c = component as usize;
         if c < rows.len() {
-            rows[c].releases.min(RELEASES)
+            rows[c].releases.min(MAX_RELEASES as u8)
         } else {
             0
         }

@@ -10,7 +10,7 @@ use archive::choice::same_pair;
 use tables::table::Table;
 
 // How many pair rows an index has room for.
-pub const PAIRS: usize = 1024;
+pub const MAX_PAIRS: usize = 1024;
 
 // The two choices clash.
 #[derive(Clone, Copy)]
@@ -22,7 +22,7 @@ pub struct PairRow {
 #[derive(Drop)]
 pub struct PairIndex {
     components: ComponentTable,
-    pairs: Table<PairRow, PAIRS>,
+    pairs: Table<PairRow, MAX_PAIRS>,
 }
 
 impl PairIndex {

@@ -10,7 +10,7 @@ use archive::choice::ChoicePartialEq;
 use tables::table::Table;
 
 // How many needs rows an index has room for.
-pub const NEEDS: usize = 512;
+pub const MAX_NEEDS: usize = 512;
 
 // The choice needs the other component at a release from low to high.
 #[derive(Clone, Copy)]
@@ -42,7 +42,7 @@ impl NeedsRow {
 #[derive(Drop)]
 pub struct RangeIndex {
     components: ComponentTable,
-    needs: Table<NeedsRow, NEEDS>,
+    needs: Table<NeedsRow, MAX_NEEDS>,
 }
 
 impl RangeIndex {

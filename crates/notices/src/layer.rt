@@ -14,12 +14,12 @@ use refusals::Refusal;
 use tables::table::Table;
 
 // How many notices a layer has room for.
-pub const NOTICES: usize = 64;
+pub const MAX_NOTICES: usize = 64;
 
 #[derive(Drop)]
 pub struct NoticeLayer<A: Archive> {
     below: A,
-    notices: Table<Notice, NOTICES>,
+    notices: Table<Notice, MAX_NOTICES>,
 }
 
 impl<A: Archive> NoticeLayer<A> {
@@ -36,12 +36,6 @@ impl<A: Archive> NoticeLayer<A> {
             below,
             notices: Table::empty(filler),
         }
-    }
-
-    pub fn below(&self) -> &A
-        ensures { λ r. ⌜ now r ≡ now (self .entry) .below ⌝ }
-    {
-        &self.below
     }
 
     // The notices in order of filing.
