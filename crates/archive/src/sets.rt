@@ -16,11 +16,20 @@ pub fn lawful<A: Archive>(archive: &A, set: &[u8]) -> bool
     ensures value { λ r. ⌜ Decides r (Lawful (A·Archive .meaning (now (archive .entry))) (now (set .entry))) ⌝ }
     ensures alike { λ r. ⌜ ((m : Meaning) → Alike (A·Archive .meaning (now (archive .entry))) m → Decides r (Lawful m (now (set .entry)))) ⌝ }
 {
-    let n = archive.components();
-    if set.len() != n as usize {
-        return false;
-    }
-    for a in 0..n {
+    is_lawful(archive, set)
+}
+
+fn is_lawful<A: Archive>(archive: &A, set: &[u8]) -> bool
+    ensures { λ r. ⌜ Decides r (Lawful (A·Archive .meaning (now (archive .entry))) (now (set .entry))) ⌝ }
+{
+    set.len() == archive.components() as usize && all_suit(archive, set)
+}
+
+fn all_suit<A: Archive>(archive: &A, set: &[u8]) -> bool
+    requires { ⌜ length (now set) ≡ A·Archive .meaning (now archive) .components ⌝ }
+    ensures { λ r. ⌜ Decides r (Lawful (A·Archive .meaning (now (archive .entry))) (now (set .entry))) ⌝ }
+{
+    for a in 0..archive.components() {
         if !suits(archive, set, a) {
             return false;
         }

@@ -2,6 +2,8 @@ use super::build::choice;
 use super::build::component;
 use super::build::pair;
 use archive::Archive;
+use archive::choice::ChoiceDebug;
+use archive::choice::ChoicePartialEq;
 use indexes::pair::PairArchive;
 use indexes::pair::PairIndex;
 use notices::layer::LayerArchive;
@@ -22,6 +24,27 @@ fn single(component: u8, release: u8) -> Notice {
     Notice::Single(choice(component, release))
 }
 
+#[derive(Clone, Copy)]
+enum Call {
+    File(Notice),
+    Lift(Notice),
+}
+
+// Makes the calls in order, and compares the refusal, if any, of each.
+fn perform(
+    layer: &mut NoticeLayer<PairIndex>,
+    calls: &[(Call, Option<Refusal>)],
+) -> Result<(), Fail> {
+    for (call, expected) in calls {
+        let answer = match *call {
+            Call::File(notice) => layer.file(notice),
+            Call::Lift(notice) => layer.lift(notice),
+        };
+        check_eq(answer.err(), *expected)?;
+    }
+    Ok(())
+}
+
 #[test]
 fn refusals_are_tried_in_order() -> Result<(), Fail> {
     let mut layer = NoticeLayer::over(index());
@@ -30,54 +53,60 @@ fn refusals_are_tried_in_order() -> Result<(), Fail> {
     let far = Notice::Pair(choice(0, 0), choice(3, 0));
     let both = Notice::Pair(choice(0, 1), choice(2, 1));
     let turned = Notice::Pair(choice(2, 1), choice(0, 1));
-    check_eq(layer.file(single(3, 0)), Err(Refusal::NotOffered))?;
-    check_eq(layer.file(single(2, 2)), Err(Refusal::NotOffered))?;
-    check_eq(layer.file(far), Err(Refusal::NotOffered))?;
-    check_eq(layer.file(own_past), Err(Refusal::NotOffered))?;
-    check_eq(layer.file(own), Err(Refusal::OneComponent))?;
-    check_eq(layer.lift(own_past), Err(Refusal::NotOffered))?;
-    check_eq(layer.lift(own), Err(Refusal::OneComponent))?;
-    check_eq(layer.lift(both), Err(Refusal::NotFiled))?;
-    check_eq(layer.file(both), Ok(()))?;
-    check_eq(layer.file(turned), Err(Refusal::AlreadyFiled))?;
-    check_eq(layer.notices().len(), 1)?;
-    check_eq(layer.lift(turned), Ok(()))?;
+    let calls = [
+        (Call::File(single(3, 0)), Some(Refusal::NotOffered)),
+        (Call::File(single(2, 2)), Some(Refusal::NotOffered)),
+        (Call::File(far), Some(Refusal::NotOffered)),
+        (Call::File(own_past), Some(Refusal::NotOffered)),
+        (Call::File(own), Some(Refusal::OneComponent)),
+        (Call::Lift(own_past), Some(Refusal::NotOffered)),
+        (Call::Lift(own), Some(Refusal::OneComponent)),
+        (Call::Lift(both), Some(Refusal::NotFiled)),
+        (Call::File(both), None),
+        (Call::File(turned), Some(Refusal::AlreadyFiled)),
+        (Call::Lift(turned), None),
+        (Call::Lift(both), Some(Refusal::NotFiled)),
+    ];
+    perform(&mut layer, &calls)?;
     check_eq(layer.notices().len(), 0)
 }
 
 #[test]
 fn a_filed_notice_bars_and_a_lifted_one_does_not() -> Result<(), Fail> {
     let mut layer = NoticeLayer::over(index());
-    check_eq(layer.file(single(2, 0)), Ok(()))?;
-    check_eq(layer.file(Notice::Pair(choice(0, 1), choice(1, 1))), Ok(()))?;
+    let barred = Notice::Pair(choice(0, 1), choice(1, 1));
+    perform(
+        &mut layer,
+        &[(Call::File(single(2, 0)), None), (Call::File(barred), None)],
+    )?;
     check(layer.withdrawn(choice(2, 0)) && !layer.withdrawn(choice(2, 1)))?;
     check(layer.clash(choice(0, 1), choice(1, 1)) && layer.clash(choice(1, 1), choice(0, 1)))?;
-    check(layer.clash(choice(0, 0), choice(1, 0)))?;
-    check(!layer.clash(choice(0, 1), choice(1, 0)))?;
-    check_eq(layer.lift(single(2, 0)), Ok(()))?;
-    check(!layer.withdrawn(choice(2, 0)))?;
-    check(layer.clash(choice(0, 1), choice(1, 1)))
+    check(layer.clash(choice(0, 0), choice(1, 0)) && !layer.clash(choice(0, 1), choice(1, 0)))?;
+    perform(&mut layer, &[(Call::Lift(single(2, 0)), None)])?;
+    check(!layer.withdrawn(choice(2, 0)) && layer.clash(choice(0, 1), choice(1, 1)))
 }
 
 #[test]
 fn lifting_keeps_the_order_of_the_others() -> Result<(), Fail> {
     let mut layer = NoticeLayer::over(index());
-    for release in 0..2 {
-        for component in 0..3 {
-            check_eq(layer.file(single(component, release)), Ok(()))?;
-        }
-    }
-    check_eq(layer.lift(single(1, 0)), Ok(()))?;
-    check_eq(layer.lift(single(2, 1)), Ok(()))?;
-    check_eq(layer.lift(single(0, 0)), Ok(()))?;
-    let expected = [choice(2, 0), choice(0, 1), choice(1, 1)];
+    let calls = [
+        (Call::File(single(0, 0)), None),
+        (Call::File(single(1, 0)), None),
+        (Call::File(single(2, 0)), None),
+        (Call::File(single(0, 1)), None),
+        (Call::File(single(1, 1)), None),
+        (Call::Lift(single(1, 0)), None),
+        (Call::Lift(single(1, 1)), None),
+        (Call::File(single(1, 0)), None),
+        (Call::Lift(single(0, 0)), None),
+    ];
+    perform(&mut layer, &calls)?;
+    let expected = [choice(2, 0), choice(0, 1), choice(1, 0)];
     check_eq(layer.notices().len(), 3)?;
     for (filed, wanted) in layer.notices().iter().zip(expected) {
         match *filed {
-            Notice::Single(x) => check(
-                x.component == wanted.component && x.release == wanted.release,
-            )?,
-            Notice::Pair(_, _) => return Err(Fail::new("a pair among the singles")),
+            Notice::Single(x) => check_eq(x, wanted)?,
+            Notice::Pair(_, _) => return Err(Fail::new("a pair among the single choices")),
         }
     }
     Ok(())
@@ -86,14 +115,14 @@ fn lifting_keeps_the_order_of_the_others() -> Result<(), Fail> {
 #[test]
 fn layers_pile_up() -> Result<(), Fail> {
     let mut lower = NoticeLayer::over(index());
-    check_eq(lower.file(single(2, 0)), Ok(()))?;
+    perform(&mut lower, &[(Call::File(single(2, 0)), None)])?;
     let mut upper = NoticeLayer::over(lower);
-    check_eq(upper.lift(single(2, 0)), Err(Refusal::NotFiled))?;
-    check_eq(upper.file(single(2, 0)), Ok(()))?;
-    check_eq(upper.file(Notice::Pair(choice(1, 1), choice(2, 1))), Ok(()))?;
+    check_eq(upper.lift(single(2, 0)).err(), Some(Refusal::NotFiled))?;
+    check_eq(
+        upper.file(Notice::Pair(choice(1, 1), choice(2, 1))).err(),
+        None,
+    )?;
     check(upper.clash(choice(2, 1), choice(1, 1)) && upper.clash(choice(1, 0), choice(0, 0)))?;
-    check_eq(upper.lift(single(2, 0)), Ok(()))?;
-    check(upper.withdrawn(choice(2, 0)))?;
-    check_eq(upper.components(), 3)?;
-    check_eq(upper.releases(2), 2)
+    check(upper.withdrawn(choice(2, 0)) && !upper.withdrawn(choice(2, 1)))?;
+    check(upper.components() == 3 && upper.releases(2) == 2 && upper.releases(3) == 0)
 }

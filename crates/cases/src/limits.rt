@@ -85,17 +85,18 @@ fn rows_past_the_last_are_ignored() -> Result<(), Fail> {
 
 #[test]
 fn the_65th_notice_is_refused() -> Result<(), Fail> {
-    let rows = [component(1); 64];
-    let mut layer = NoticeLayer::over(PairIndex::new(&rows, &[]));
-    for c in 0..63 {
-        check_eq(layer.file(Notice::Single(choice(c, 0))), Ok(()))?;
+    let mut layer = NoticeLayer::over(PairIndex::new(
+        &[component(32), component(32), component(1)],
+        &[],
+    ));
+    let late = Notice::Single(choice(2, 0));
+    for c in 0..2 {
+        for r in 0..32 {
+            check_eq(layer.file(Notice::Single(choice(c, r))).err(), None)?;
+        }
     }
-    let late = Notice::Pair(choice(0, 0), choice(1, 0));
-    check_eq(layer.notices().len(), 63)?;
-    check_eq(layer.file(Notice::Single(choice(63, 0))), Ok(()))?;
-    check_eq(layer.file(late), Err(Refusal::NoticesFull))?;
-    check_eq(layer.notices().len(), 64)?;
-    check_eq(layer.lift(Notice::Single(choice(5, 0))), Ok(()))?;
-    check_eq(layer.file(late), Ok(()))?;
+    check_eq(layer.file(late).err(), Some(Refusal::NoticesFull))?;
+    check_eq(layer.lift(Notice::Single(choice(0, 5))).err(), None)?;
+    check_eq(layer.file(late).err(), None)?;
     check_eq(layer.notices().len(), 64)
 }

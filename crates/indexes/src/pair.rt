@@ -1,7 +1,10 @@
 // The pair index: which two choices clash, pair by pair.
+ghost use mathlib.Core.Bool.{true};
 ghost use mathlib.Core.Path.{_≡_};
+ghost use Rattle.indexes.specs.Components.{offers};
 ghost use Rattle.indexes.specs.Pairs.{joins, pair-means, pair-meaning, Clash-by-pairs};
 ghost use Rattle.tables.specs.Any.{any};
+ghost use Rattle.tables.specs.Held.{held};
 use super::components::ComponentRow;
 use super::components::ComponentTable;
 use archive::Archive;
@@ -19,6 +22,15 @@ pub struct PairRow {
     pub second: Choice,
 }
 
+impl PairRow {
+    // Whether it names both choices, in either order.
+    fn joins(&self, x: Choice, y: Choice) -> bool
+        ensures { λ r. ⌜ r ≡ joins (x .component) (x .release) (y .component) (y .release) (now (self .entry)) ⌝ }
+    {
+        same_pair(self.first, self.second, x, y)
+    }
+}
+
 #[derive(Drop)]
 pub struct PairIndex {
     components: ComponentTable,
@@ -30,6 +42,12 @@ impl PairIndex {
     pub fn new(components: &[ComponentRow], pairs: &[PairRow]) -> Self
         ensures value { λ r. ⌜ pair-means r ≡ pair-meaning (now (components .entry)) (now (pairs .entry)) ⌝ }
         ensures clash { λ _. ⌜ Clash-by-pairs (now (components .entry)) (now (pairs .entry)) ⌝ }
+    {
+        Self::holding(components, pairs)
+    }
+
+    fn holding(components: &[ComponentRow], pairs: &[PairRow]) -> Self
+        ensures { λ r. ⌜ pair-means r ≡ pair-meaning (now (components .entry)) (now (pairs .entry)) ⌝ }
     {
         let none = Choice {
             component: 0,
@@ -44,6 +62,15 @@ impl PairIndex {
             pairs: Table::of(pairs, filler),
         }
     }
+
+    // What the rows tell of two offered choices.
+    fn joins(&self, x: Choice, y: Choice) -> bool
+        requires first { ⌜ offers (held (now self .components .rows)) (x .component) (x .release) ≡ true ⌝ }
+        requires second { ⌜ offers (held (now self .components .rows)) (y .component) (y .release) ≡ true ⌝ }
+        ensures { λ r. ⌜ r ≡ pair-means (now (self .entry)) .clash (x .component) (x .release) (y .component) (y .release) ⌝ }
+    {
+        x.component != y.component && joined(self.pairs.rows(), x, y)
+    }
 }
 
 // Whether some row names both choices.
@@ -51,7 +78,7 @@ fn joined(rows: &[PairRow], x: Choice, y: Choice) -> bool
     ensures { λ r. ⌜ r ≡ any (joins (x .component) (x .release) (y .component) (y .release)) (now (rows .entry)) ⌝ }
 {
     for row in rows {
-        if same_pair(row.first, row.second, x, y) {
+        if row.joins(x, y) {
             return true;
         }
     }
@@ -74,9 +101,6 @@ pub impl Archive for PairIndex as PairArchive {
     }
 
     fn clash(&self, x: Choice, y: Choice) -> bool {
-        if !self.components.offers(x) || !self.components.offers(y) {
-            return true;
-        }
-        x.component != y.component && joined(self.pairs.rows(), x, y)
+        !self.components.offers(x) || !self.components.offers(y) || self.joins(x, y)
     }
 }

@@ -1,7 +1,10 @@
 // The range index: what a release needs of another component.
+ghost use mathlib.Core.Bool.{true};
 ghost use mathlib.Core.Path.{_≡_};
+ghost use Rattle.indexes.specs.Components.{offers};
 ghost use Rattle.indexes.specs.Ranges.{leaves-out, parts, range-means, range-meaning, Clash-by-ranges};
 ghost use Rattle.tables.specs.Any.{any};
+ghost use Rattle.tables.specs.Held.{held};
 use super::components::ComponentRow;
 use super::components::ComponentTable;
 use archive::Archive;
@@ -51,6 +54,12 @@ impl RangeIndex {
         ensures value { λ r. ⌜ range-means r ≡ range-meaning (now (components .entry)) (now (needs .entry)) ⌝ }
         ensures clash { λ _. ⌜ Clash-by-ranges (now (components .entry)) (now (needs .entry)) ⌝ }
     {
+        Self::holding(components, needs)
+    }
+
+    fn holding(components: &[ComponentRow], needs: &[NeedsRow]) -> Self
+        ensures { λ r. ⌜ range-means r ≡ range-meaning (now (components .entry)) (now (needs .entry)) ⌝ }
+    {
         let filler = NeedsRow {
             choice: Choice {
                 component: 0,
@@ -64,6 +73,15 @@ impl RangeIndex {
             components: ComponentTable::of(components),
             needs: Table::of(needs, filler),
         }
+    }
+
+    // What the rows tell of two offered choices.
+    fn parts(&self, x: Choice, y: Choice) -> bool
+        requires first { ⌜ offers (held (now self .components .rows)) (x .component) (x .release) ≡ true ⌝ }
+        requires second { ⌜ offers (held (now self .components .rows)) (y .component) (y .release) ≡ true ⌝ }
+        ensures { λ r. ⌜ r ≡ range-means (now (self .entry)) .clash (x .component) (x .release) (y .component) (y .release) ⌝ }
+    {
+        x.component != y.component && parted(self.needs.rows(), x, y)
     }
 }
 
@@ -95,9 +113,6 @@ pub impl Archive for RangeIndex as RangeArchive {
     }
 
     fn clash(&self, x: Choice, y: Choice) -> bool {
-        if !self.components.offers(x) || !self.components.offers(y) {
-            return true;
-        }
-        x.component != y.component && parted(self.needs.rows(), x, y)
+        !self.components.offers(x) || !self.components.offers(y) || self.parts(x, y)
     }
 }

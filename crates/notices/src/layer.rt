@@ -42,7 +42,7 @@ impl<A: Archive> NoticeLayer<A> {
     pub fn notices(&self) -> &[Notice]
         ensures { λ r. ⌜ now r ≡ held (now (self .entry) .notices) ⌝ }
     {
-        self.notices.rows()
+        Table::rows(&self.notices)
     }
 
     // Adds a notice after those that are filed.

@@ -40,9 +40,16 @@ impl Refusal {
 
     // Whether a call that could decline for either tries this one first.
     pub fn tried_before(self, other: Refusal) -> bool
-        ensures value { λ r. ⌜ Decides r (place self < place other) ⌝ }
+        ensures { λ r. ⌜ Decides r (place self < place other) ⌝ }
+    {
+        self.turn() < other.turn()
+    }
+
+    // Its place in the order of trying; today that is the order of the numbers.
+    fn turn(self) -> u8
+        ensures value { λ r. ⌜ r ≡ place self ⌝ }
         ensures told { λ _. ⌜ Order-tells-apart ⌝ }
     {
-        self.number() < other.number()
+        self.number() - 1
     }
 }

@@ -4,5 +4,5 @@ use lib.ListN.{take}
 use Rattle.tables.specs.declared.table.Table.{Table}
 
 -- the rows that a table holds, in order
-unfoldable pub held : {T : Type 0} {n : ℕ} → Table T n → List T
+abbrev pub held : {T : Type 0} {n : ℕ} → Table T n → List T
 held t = take (t .filled) (t .cells)

@@ -26,11 +26,7 @@ impl<T: Copy, const N: usize> Table<T, N> {
         ensures { λ r. ⌜ held r ≡ take N (now (rows .entry)) ⌝ }
     {
         let mut table = Table::empty(filler);
-        for row in rows {
-            if !table.push(*row) {
-                break;
-            }
-        }
+        table.extend(rows);
         table
     }
 
@@ -46,11 +42,10 @@ impl<T: Copy, const N: usize> Table<T, N> {
     pub fn push(&mut self, row: T) -> bool
         ensures { λ r. ⌜ When r ((length (held (now (self .entry))) < N) × (held (now (self .exit)) ≡ held (now (self .entry)) ++ row ∷ [])) ((length (held (now (self .entry))) ≡ N) × (held (now (self .exit)) ≡ held (now (self .entry)))) ⌝ }
     {
-        if self.filled >= N {
+        if self.len() >= N {
             return false;
         }
-        self.cells[self.filled] = row;
-        self.filled += 1;
+        self.append(row);
         true
     }
 
@@ -58,14 +53,47 @@ impl<T: Copy, const N: usize> Table<T, N> {
     pub fn remove(&mut self, at: usize) -> bool
         ensures { λ r. ⌜ When r ((at < length (held (now (self .entry)))) × (held (now (self .exit)) ≡ removed (held (now (self .entry))) at)) ((length (held (now (self .entry))) ≤ at) × (held (now (self .exit)) ≡ held (now (self .entry)))) ⌝ }
     {
-        if at >= self.filled {
+        if at >= self.len() {
             return false;
         }
+        self.close_gap(at);
+        true
+    }
+
+    fn len(&self) -> usize
+        ensures { λ r. ⌜ r ≡ length (held (now (self .entry))) ⌝ ∗ ⌜ r ≤ N ⌝ }
+    {
+        self.filled
+    }
+
+    fn append(&mut self, row: T)
+        requires { ⌜ length (held (now self)) < N ⌝ }
+        ensures { λ _. ⌜ held (now (self .exit)) ≡ held (now (self .entry)) ++ row ∷ [] ⌝ }
+    {
+        self.cells[self.filled] = row;
+        self.filled += 1;
+    }
+
+    // The rows behind the ones that are there, as far as there is room.
+    fn extend(&mut self, rows: &[T])
+        ensures { λ _. ⌜ held (now (self .exit)) ≡ take N (held (now (self .entry)) ++ now (rows .entry)) ⌝ }
+    {
+        for row in rows {
+            if !self.push(*row) {
+                break;
+            }
+        }
+    }
+
+    // Moves each row behind the gap one place down.
+    fn close_gap(&mut self, gap: usize)
+        requires { ⌜ gap < length (held (now self)) ⌝ }
+        ensures { λ _. ⌜ held (now (self .exit)) ≡ removed (held (now (self .entry))) gap ⌝ }
+    {
         let end = self.filled;
-        for k in at + 1..end {
+        for k in gap + 1..end {
             self.cells[k - 1] = self.cells[k];
         }
         self.filled = end - 1;
-        true
     }
 }

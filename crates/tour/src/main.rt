@@ -14,7 +14,6 @@ use indexes::range::RangeIndex;
 use notices::layer::LayerArchive;
 use notices::layer::NoticeLayer;
 use notices::notice::Notice;
-use refusals::Refusal;
 use std::cmp::Ordering;
 use std::io;
 
@@ -108,14 +107,31 @@ fn print_table(
     Ok(())
 }
 
-fn print_answer(rt: &impl Print, call: &str, answer: Result<(), Refusal>) -> io::Result<()> {
-    match answer {
-        Ok(()) => println!(rt, "{call}: done"),
-        Err(refusal) => {
-            let number = refusal.number();
-            println!(rt, "{call}: refusal {number}")
+#[derive(Clone, Copy)]
+enum Call {
+    File(Notice),
+    Lift(Notice),
+}
+
+fn print_calls(
+    rt: &impl Print,
+    layer: &mut NoticeLayer<PairIndex>,
+    calls: &[(&str, Call)],
+) -> io::Result<()> {
+    for (words, call) in calls {
+        let answer = match *call {
+            Call::File(notice) => layer.file(notice),
+            Call::Lift(notice) => layer.lift(notice),
+        };
+        match answer {
+            Ok(()) => println!(rt, "{words}: done")?,
+            Err(refusal) => {
+                let number = refusal.number();
+                println!(rt, "{words}: refusal {number}")?
+            }
         }
     }
+    Ok(())
 }
 
 fn print_order(rt: &impl Print, pinned: &str, pins: &[u8], s: &[u8], t: &[u8]) -> io::Result<()> {
@@ -140,18 +156,20 @@ fn main(rt: LibcRuntime) -> io::Result<()> {
     print_table(&rt, &ranges, &pairs, &layer)?;
 
     let notice = Notice::Pair(choice(SHELL, 1), choice(BOOT, 1));
-    print_answer(&rt, "file shell 1 with boot 1", layer.file(notice))?;
     let turned = Notice::Pair(choice(BOOT, 1), choice(SHELL, 1));
-    print_answer(&rt, "file boot 1 with shell 1", layer.file(turned))?;
-    print_answer(
-        &rt,
-        "file radio 3",
-        layer.file(Notice::Single(choice(RADIO, 3))),
-    )?;
+    let filing = [
+        ("file shell 1 with boot 1", Call::File(notice)),
+        ("file boot 1 with shell 1", Call::File(turned)),
+        ("file radio 3", Call::File(Notice::Single(choice(RADIO, 3)))),
+    ];
+    print_calls(&rt, &mut layer, &filing)?;
     print_table(&rt, &ranges, &pairs, &layer)?;
 
-    print_answer(&rt, "lift boot 1 with shell 1", layer.lift(turned))?;
-    print_answer(&rt, "lift it again", layer.lift(turned))?;
+    let lifting = [
+        ("lift boot 1 with shell 1", Call::Lift(turned)),
+        ("lift it again", Call::Lift(turned)),
+    ];
+    print_calls(&rt, &mut layer, &lifting)?;
     print_table(&rt, &ranges, &pairs, &layer)?;
 
     print_order(

@@ -1,6 +1,5 @@
-use borrow.Author.Needs.{needs}
 use Rattle.indexes.proofs.Pairing.{clash-by-pairs}
 use Rattle.indexes.proofs.pair.PairIndex.new.Needs as need
 
 pub returns : need.returns
-returns c = record { value = search needs; clash = clash-by-pairs (c .args .components .now) (c .args .pairs .now) }
+returns c = record { value = c .holding .ensures; clash = clash-by-pairs (c .args .components .now) (c .args .pairs .now) }

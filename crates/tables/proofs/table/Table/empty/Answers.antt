@@ -1,12 +1,6 @@
-use mathlib.Core.Path.{refl}
 use native.Mathlib.Omega.{arith}
 use lib.ListN.{length-replicate}
-use Rattle.tables.specs.Held.{held}
 use Rattle.tables.proofs.table.Table.empty.Needs as need
 
 pub ghost-result : need.ghost-result
 ghost-result g c = (omega arith, (length-replicate (g .N) (c .args .filler), tt))
-
-pub returns : need.returns
-unfolding held
-returns g c = refl
