@@ -4,18 +4,18 @@ use indexes::components::ComponentRow;
 use indexes::pair::PairRow;
 use indexes::range::NeedsRow;
 
-pub fn choice(component: u8, release: u8) -> Choice {
+pub(super) fn choice(component: u8, release: u8) -> Choice {
     Choice { component, release }
 }
 
-pub fn component(releases: u8) -> ComponentRow {
+pub(super) fn component(releases: u8) -> ComponentRow {
     ComponentRow {
         releases,
         withdrawn: [false; 32],
     }
 }
 
-pub fn needs(choice: Choice, other: u8, low: u8, high: u8) -> NeedsRow {
+pub(super) fn needs(choice: Choice, other: u8, low: u8, high: u8) -> NeedsRow {
     NeedsRow {
         choice,
         other,
@@ -24,6 +24,6 @@ pub fn needs(choice: Choice, other: u8, low: u8, high: u8) -> NeedsRow {
     }
 }
 
-pub fn pair(first: Choice, second: Choice) -> PairRow {
+pub(super) fn pair(first: Choice, second: Choice) -> PairRow {
     PairRow { first, second }
 }

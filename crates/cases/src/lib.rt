@@ -8,4 +8,6 @@ mod layers;
 #[cfg(test)]
 mod limits;
 #[cfg(test)]
+mod numbers;
+#[cfg(test)]
 mod sets;

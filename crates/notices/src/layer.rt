@@ -42,7 +42,7 @@ impl<A: Archive> NoticeLayer<A> {
     pub fn notices(&self) -> &[Notice]
         ensures { λ r. ⌜ now r ≡ held (now (self .entry) .notices) ⌝ }
     {
-        Table::rows(&self.notices)
+        self.notices.rows()
     }
 
     // Adds a notice after those that are filed.
@@ -87,7 +87,7 @@ impl<A: Archive> NoticeLayer<A> {
     fn place(&self, notice: Notice) -> Option<usize>
         ensures { λ r. ⌜ Place (held (now (self .entry) .notices)) notice r ⌝ }
     {
-        place_in(self.notices.rows(), notice)
+        place_in(self.notices(), notice)
     }
 
     fn holds(&self, notice: Notice) -> bool
@@ -160,10 +160,10 @@ pub impl<A: Archive> Archive for NoticeLayer<A> as LayerArchive {
     }
 
     fn withdrawn(&self, x: Choice) -> bool {
-        self.below.withdrawn(x) || barred(self.notices.rows(), x)
+        self.below.withdrawn(x) || barred(self.notices(), x)
     }
 
     fn clash(&self, x: Choice, y: Choice) -> bool {
-        self.below.clash(x, y) || parted(self.notices.rows(), x, y)
+        self.below.clash(x, y) || parted(self.notices(), x, y)
     }
 }

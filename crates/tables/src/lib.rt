@@ -2,9 +2,8 @@ ghost use Prim.Native.Nat.{_<_, _≤_};
 ghost use mathlib.Core.Path.{_≡_};
 ghost use mathlib.Core.List.{_∷_, [], _++_};
 ghost use lib.ListN.{length, take};
-ghost use Rattle.std.specs.Orderings.{When};
 ghost use Rattle.std.specs.shelf.Lists.{removed};
-ghost use Rattle.tables.specs.Held.{held};
+ghost use Rattle.tables.specs.Held.{held, Pushes, Removes};
 
 pub mod table;
 
@@ -40,7 +39,7 @@ impl<T: Copy, const N: usize> Table<T, N> {
 
     // One row more at the end; false, and nothing changed, where the table is full.
     pub fn push(&mut self, row: T) -> bool
-        ensures { λ r. ⌜ When r ((length (held (now (self .entry))) < N) × (held (now (self .exit)) ≡ held (now (self .entry)) ++ row ∷ [])) ((length (held (now (self .entry))) ≡ N) × (held (now (self .exit)) ≡ held (now (self .entry)))) ⌝ }
+        ensures { λ r. ⌜ Pushes (now (self .entry)) row r (now (self .exit)) ⌝ }
     {
         if self.len() >= N {
             return false;
@@ -51,7 +50,7 @@ impl<T: Copy, const N: usize> Table<T, N> {
 
     // Takes the row at a place out, and closes the gap; false, and nothing changed, where no row is there.
     pub fn remove(&mut self, at: usize) -> bool
-        ensures { λ r. ⌜ When r ((at < length (held (now (self .entry)))) × (held (now (self .exit)) ≡ removed (held (now (self .entry))) at)) ((length (held (now (self .entry))) ≤ at) × (held (now (self .exit)) ≡ held (now (self .entry)))) ⌝ }
+        ensures { λ r. ⌜ Removes (now (self .entry)) at r (now (self .exit)) ⌝ }
     {
         if at >= self.len() {
             return false;
@@ -61,7 +60,8 @@ impl<T: Copy, const N: usize> Table<T, N> {
     }
 
     fn len(&self) -> usize
-        ensures { λ r. ⌜ r ≡ length (held (now (self .entry))) ⌝ ∗ ⌜ r ≤ N ⌝ }
+        ensures value { λ r. ⌜ r ≡ length (held (now (self .entry))) ⌝ }
+        ensures bound { λ r. ⌜ r ≤ N ⌝ }
     {
         self.filled
     }

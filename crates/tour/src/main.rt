@@ -1,4 +1,9 @@
 // A tour of the archives: two indexes that mean the same, and a notice layer on one of them.
+ghost use mathlib.Core.Path.{_≡_};
+ghost use Rattle.archive.specs.Alike.{Alike};
+ghost use Rattle.indexes.specs.Pairs.{pair-means, pair-meaning};
+ghost use Rattle.indexes.specs.Ranges.{range-means, range-meaning};
+ghost use Rattle.tour.specs.Example.{components, needs-rows, pair-rows};
 use archive::Archive;
 use archive::choice::Choice;
 use archive::order::NO_PIN;
@@ -35,12 +40,16 @@ const SETS: [[u8; 3]; 8] = [
     [1, 2, 2],
 ];
 
-fn choice(component: u8, release: u8) -> Choice {
+fn choice(component: u8, release: u8) -> Choice
+    ensures { λ r. ⌜ r ≡ record { component = component; release = release } ⌝ }
+{
     Choice { component, release }
 }
 
 // Boot and shell have two releases, radio has three, the oldest of them withdrawn.
-fn components() -> [ComponentRow; 3] {
+fn component_rows() -> [ComponentRow; 3]
+    ensures { λ r. ⌜ r ≡ components ⌝ }
+{
     let mut radio = [false; 32];
     radio[0] = true;
     let two = ComponentRow {
@@ -54,7 +63,9 @@ fn components() -> [ComponentRow; 3] {
     [two, three, two]
 }
 
-fn by_ranges() -> RangeIndex {
+fn by_ranges() -> RangeIndex
+    ensures { λ r. ⌜ range-means r ≡ range-meaning components needs-rows ⌝ }
+{
     let radio_needs = NeedsRow {
         choice: choice(RADIO, 2),
         other: BOOT,
@@ -67,20 +78,31 @@ fn by_ranges() -> RangeIndex {
         low: 2,
         high: 2,
     };
-    RangeIndex::new(&components(), &[radio_needs, shell_needs])
+    RangeIndex::new(&component_rows(), &[radio_needs, shell_needs])
 }
 
-fn pair(first: Choice, second: Choice) -> PairRow {
+fn pair(first: Choice, second: Choice) -> PairRow
+    ensures { λ r. ⌜ r ≡ record { first = first; second = second } ⌝ }
+{
     PairRow { first, second }
 }
 
-fn by_pairs() -> PairIndex {
+fn by_pairs() -> PairIndex
+    ensures { λ r. ⌜ pair-means r ≡ pair-meaning components pair-rows ⌝ }
+{
     let pairs = [
         pair(choice(RADIO, 2), choice(BOOT, 0)),
         pair(choice(RADIO, 0), choice(SHELL, 1)),
         pair(choice(SHELL, 1), choice(RADIO, 1)),
     ];
-    PairIndex::new(&components(), &pairs)
+    PairIndex::new(&component_rows(), &pairs)
+}
+
+// One index of each kind; they agree on what is offered and barred.
+fn both_indexes() -> (RangeIndex, PairIndex)
+    ensures { λ r. ⌜ Alike (range-means (r .0)) (pair-means (r .1)) ⌝ }
+{
+    (by_ranges(), by_pairs())
 }
 
 fn verdict(yes: bool) -> &'static str {
@@ -145,8 +167,7 @@ fn print_order(rt: &impl Print, pinned: &str, pins: &[u8], s: &[u8], t: &[u8]) -
 }
 
 fn main(rt: LibcRuntime) -> io::Result<()> {
-    let ranges = by_ranges();
-    let pairs = by_pairs();
+    let (ranges, pairs) = both_indexes();
     let mut layer = NoticeLayer::over(by_pairs());
     println!(
         rt,
