@@ -25,5 +25,5 @@ pub record Sound (m : Meaning) : Type 0 where
   pub clash-past : (a i b j : ℕ) → m .releases a ≤ i → m .clash a i b j ≡ true
   -- two offered choices of one component do not clash
   pub own : (c i j : ℕ) → Offered m c i → Offered m c j → m .clash c i c j ≡ false
-  -- swapping the two choices never alters the answer
+  -- it does not matter which of the two choices is named first
   pub symmetric : (a i b j : ℕ) → m .clash a i b j ≡ m .clash b j a i

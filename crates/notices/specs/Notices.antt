@@ -18,7 +18,7 @@ abbrev pub bars-pair : ℕ → ℕ → ℕ → ℕ → Notice → Bool
 bars-pair a i b j (Single x) = false
 bars-pair a i b j (Pair x y) = not (eqb a b) && names-both x y a i b j
 
--- the meaning below with the noticed choices withdrawn and the noticed pairs clashing
+-- the meaning below, except that the choices in notices are withdrawn too and the pairs in notices clash too
 abbrev pub noticed : Meaning → List Notice → Meaning
 noticed m ns = record {
   components = m .components;

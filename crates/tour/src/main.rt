@@ -118,12 +118,15 @@ fn print_table(
     println!(rt, "{:<6}  {:<10}  {:<10}  layer", "set", "ranges", "pairs")?;
     for [a, b, c] in SETS {
         let set = [a, b, c];
+        let below = lawful(pairs, &set);
+        let above = lawful(layer, &set);
         let by_range = verdict(lawful(ranges, &set));
-        let by_pair = verdict(lawful(pairs, &set));
-        let by_layer = verdict(lawful(layer, &set));
+        let by_pair = verdict(below);
+        let by_layer = verdict(above);
+        let change = if below == above { "" } else { ", by a notice" };
         println!(
             rt,
-            "{a} {b} {c}   {by_range:<10}  {by_pair:<10}  {by_layer}"
+            "{a} {b} {c}   {by_range:<10}  {by_pair:<10}  {by_layer}{change}"
         )?;
     }
     Ok(())
