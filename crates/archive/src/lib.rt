@@ -1,3 +1,4 @@
+// Archives and what they mean; sets of releases over them.
 ghost use Prim.Native.Nat.{ℕ};
 ghost use mathlib.Core.Path.{_≡_};
 ghost use Rattle.archive.specs.Meaning.{Meaning, Sound};
@@ -28,9 +29,11 @@ pub trait Archive {
     fn releases(&self, component: u8) -> u8
         ensures { λ r. ⌜ r ≡ meaning (now (self .entry)) .releases component ⌝ };
 
+    // Whether the choice is withdrawn; yes where it is not offered.
     fn withdrawn(&self, x: Choice) -> bool
         ensures { λ r. ⌜ r ≡ meaning (now (self .entry)) .withdrawn (x .component) (x .release) ⌝ };
 
+    // Whether the choices clash; yes where one is not offered, no where both are offered and of one component.
     fn clash(&self, x: Choice, y: Choice) -> bool
         ensures { λ r. ⌜ r ≡ meaning (now (self .entry)) .clash (x .component) (x .release) (y .component) (y .release) ⌝ };
 }

@@ -1,3 +1,4 @@
+// Two archives that are made from rows.
 pub mod components;
 pub mod pair;
 pub mod range;

@@ -1,2 +1,3 @@
+// An archive over another one, with notices that bar more.
 pub mod layer;
 pub mod notice;

@@ -1,3 +1,4 @@
+// The refusals of all calls.
 ghost use Prim.Native.Nat.{_<_};
 ghost use mathlib.Core.Path.{_≡_};
 ghost use Rattle.refusals.specs.Refusals.{numbered, place, Numbers-tell-apart, Order-tells-apart};

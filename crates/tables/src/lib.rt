@@ -1,3 +1,4 @@
+// Tables of rows with a limit, for which no memory is allocated.
 ghost use Prim.Native.Nat.{_<_, _≤_};
 ghost use mathlib.Core.Path.{_≡_};
 ghost use mathlib.Core.List.{_∷_, [], _++_};
@@ -29,6 +30,7 @@ impl<T: Copy, const N: usize> Table<T, N> {
         table
     }
 
+    // The rows in order, without the fillers.
     pub fn rows(&self) -> &[T]
         ensures value { λ r. ⌜ now r ≡ held (now (self .entry)) ⌝ }
         ensures bound { λ r. ⌜ length (now r) ≤ N ⌝ }
