@@ -1,4 +1,6 @@
 // Archives and what they mean; sets of releases over them.
+#![tactic(auto)]
+
 ghost use Rattle.std.specs.Prelude.{◌≡◌, ℕ};
 ghost use Rattle.archive.specs.Meaning.{Meaning, Sound};
 

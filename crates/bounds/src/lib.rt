@@ -1,4 +1,6 @@
 // Bounds: how many old pins can be kept together, at most.
+#![tactic(auto)]
+
 ghost use Rattle.std.specs.Prelude.{◌≡◌, ℕ, List};
 ghost use Rattle.bounds.specs.Clashes.{Reaches, Most};
 

@@ -1,4 +1,6 @@
 // Tables of cases, with expected values from the rules in docs/ARCHIVES.md and never from a run.
+#![tactic(auto)]
+
 #[cfg(test)]
 mod build;
 #[cfg(test)]

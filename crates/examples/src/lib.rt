@@ -1,4 +1,6 @@
 // Worked examples of the rules, as one table that is proved of the definitions and not of any code.
+#![tactic(auto)]
+
 ghost use Rattle.std.specs.Prelude.{◌≡◌, length};
 ghost use Rattle.examples.specs.Table.{WorkedExamples, resolving_examples};
 

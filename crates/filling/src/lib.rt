@@ -1,5 +1,7 @@
 // The tables of a search, filled by asking an archive. Each question is asked once, and clashes only of choices that
 // are not withdrawn, in one of their two orders.
+#![tactic(auto)]
+
 ghost use Rattle.filling.specs.Filled.{Means};
 
 use archive::Archive;

@@ -15,15 +15,15 @@ bit_cases m j = let h = bit_two m j in elim (cases_eq (bit m j) 0) [ inl e ↦ i
 
 -- ---- the operations, bit by bit
 
-pub bit_and : (a b k : ℕ) → bit (bit_and a b) k ≡ min (bit a k) (bit b k)
+pub bit_of_and : (a b k : ℕ) → bit (bit_and a b) k ≡ min (bit a k) (bit b k)
 unfolding bit
-bit_and a b k =
+bit_of_and a b k =
     ap (λ (x : ℕ). x % 2) (and_shr a b k)
     ∙ omega (arith, and_step (a / 2 ^ k) (b / 2 ^ k), mod_below (a / 2 ^ k) 2 (omega arith))
 
-pub bit_or : (a b k : ℕ) → bit (bit_or a b) k ≡ max (bit a k) (bit b k)
+pub bit_of_or : (a b k : ℕ) → bit (bit_or a b) k ≡ max (bit a k) (bit b k)
 unfolding bit
-bit_or a b k =
+bit_of_or a b k =
     ap (λ (x : ℕ). x % 2) (or_shr a b k)
     ∙ omega (arith, or_step (a / 2 ^ k) (b / 2 ^ k), mod_below (a / 2 ^ k) 2 (omega arith), mod_below (b / 2 ^ k) 2 (omega arith))
 
@@ -36,16 +36,16 @@ differ_two (suc zero) (suc zero) h k = omega arith
 differ_two (suc zero) (suc (suc y)) h k = absurd (omega arith)
 differ_two (suc (suc x)) y h k = absurd (omega arith)
 
-pub bit_xor : (a b k : ℕ) → bit (bit_xor a b) k ≡ differ (bit a k) (bit b k)
+pub bit_of_xor : (a b k : ℕ) → bit (bit_xor a b) k ≡ differ (bit a k) (bit b k)
 unfolding bit
-bit_xor a b k =
+bit_of_xor a b k =
     ap (λ (x : ℕ). x % 2) (xor_shr a b k)
     ∙ omega (arith, xor_step (a / 2 ^ k) (b / 2 ^ k), differ_two (a / 2 ^ k % 2) (b / 2 ^ k % 2) (mod_below (a / 2 ^ k) 2 (omega arith)) (mod_below (b / 2 ^ k) 2 (omega arith)))
 
 -- a ^ (a & b) has a's bit where b has none, and none where b has one
 pub bit_minus : (a b k : ℕ) → bit (bit_xor a (bit_and a b)) k ≡ bit a k - bit b k
 bit_minus a b k =
-    bit_xor a (bit_and a b) k ∙ ap (differ (bit a k)) (bit_and a b k) ∙ at (bit a k) (bit b k) (bit_two a k) (bit_two b k) where
+    bit_of_xor a (bit_and a b) k ∙ ap (differ (bit a k)) (bit_of_and a b k) ∙ at (bit a k) (bit b k) (bit_two a k) (bit_two b k) where
       at : (x y : ℕ) → x < 2 → y < 2 → differ x (min x y) ≡ x - y
       at zero zero h l = refl
       at zero (suc zero) h l = refl

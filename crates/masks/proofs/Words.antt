@@ -4,7 +4,7 @@ use lib.Count.{count_leading_zeros, count_trailing_zeros, under}
 use Rattle.std.proofs.lemmas.Nat.{one_shl, leading_top, mod_below}
 use Rattle.std.proofs.lemmas.Bool.{cases_eq, cases_lt, eqb-true, eqb-false, eq-eqb, ne_eqb, not-true, not_from_false}
 use Rattle.masks.specs.Masks.{bit, Has, Empty, Only, With, Without, Highest, Lowest}
-use Rattle.masks.proofs.Bits.{bit_two, bit_cases, bit_and, bit_or, bit_minus, bit_pow_same, bit_pow_other, bit_none, bit_beyond, has_below, has_pos, top_has, bit_half, bit_first}
+use Rattle.masks.proofs.Bits.{bit_two, bit_cases, bit_of_and, bit_of_or, bit_minus, bit_pow_same, bit_pow_other, bit_none, bit_beyond, has_below, has_pos, top_has, bit_half, bit_first}
 
 -- ---- j alone
 
@@ -27,8 +27,8 @@ only_other w j x o k ne = elim (bit_cases x k) [ inl e ↦ e | inr h ↦ absurd 
 
 pub with_only : (w m j x : ℕ) → Only w j x → With w m j (bit_or m x)
 with_only w m j x o = record {
-  has = λ l. omega (arith, bit_or m x j, o.has l, bit_two m j);
-  rest = λ k ne. omega (arith, bit_or m x k, only_other w j x o k ne);
+  has = λ l. omega (arith, bit_of_or m x j, o.has l, bit_two m j);
+  rest = λ k ne. omega (arith, bit_of_or m x k, only_other w j x o k ne);
 }
 
 pub without_only : (w m j x : ℕ) → m < 2 ^ w → Only w j x → Without m j (bit_xor m (bit_and m x))
@@ -116,7 +116,7 @@ empty_decides w m fits = (λ t. empty_zero m (eqb-true m 0 t), λ none. eq-eqb m
 
 both_has : (a b j : ℕ) → Has (bit_and a b) j → Has a j × Has b j
 both_has a b j o =
-    (omega (arith, o, bit_and a b j, bit_two a j, bit_two b j), omega (arith, o, bit_and a b j, bit_two a j, bit_two b j))
+    (omega (arith, o, bit_of_and a b j, bit_two a j, bit_two b j), omega (arith, o, bit_of_and a b j, bit_two a j, bit_two b j))
 
 pub meets_decides : (w a b : ℕ) → a < 2 ^ w → b < 2 ^ w → Decides (not (eqb (bit_and a b) 0)) ((j : ℕ) × Has a j × Has b j)
 meets_decides w a b fa fb = (meeting, met) where
@@ -129,7 +129,7 @@ meets_decides w a b fa fb = (meeting, met) where
 
   met : (j : ℕ) × Has a j × Has b j → not (eqb (bit_and a b) 0) ≡ true
   met (j, p, q) =
-      let h = has_pos (bit_and a b) j (omega (arith, p, q, bit_and a b j)) in
+      let h = has_pos (bit_and a b) j (omega (arith, p, q, bit_of_and a b j)) in
       not_from_false (eqb (bit_and a b) 0) (ne_eqb (bit_and a b) 0 (λ e. absurd (omega arith)))
 
 -- ---- union and difference

@@ -1,4 +1,6 @@
 // Machine words as sets of small numbers: a number is in a word when its bit is set. Bits are argued about here and
 // nowhere else.
+#![tactic(auto)]
+
 pub mod word32;
 pub mod word64;

@@ -1,4 +1,6 @@
 // The refusals of all calls.
+#![tactic(auto)]
+
 ghost use Rattle.std.specs.Prelude.{◌≡◌, ◌<◌, Decides};
 ghost use Rattle.refusals.specs.Refusals.{numbered, place, NumbersTellApart, OrderTellsApart};
 

@@ -1,4 +1,6 @@
 // The first of the lawful sets that move the fewest pins.
+#![tactic(auto)]
+
 ghost use Rattle.search.specs.Chosen.{NoneLawful, Chosen};
 ghost use Rattle.std.specs.Option.{MatchOption};
 

@@ -1,4 +1,6 @@
 // Tables of rows with a limit, for which no memory is allocated.
+#![tactic(auto)]
+
 ghost use Rattle.std.specs.Prelude.{◌≡◌, ◌<◌, ◌≤◌, [], ◌∷◌, ◌++◌, length, take};
 ghost use Rattle.std.specs.List.{remove};
 ghost use Rattle.tables.specs.Held.{held, Pushes, Removes};

@@ -1,4 +1,6 @@
 // A tour of the archives: two indexes that mean the same, and a notice layer on one of them.
+#![tactic(auto)]
+
 ghost use Rattle.std.specs.Prelude.{◌≡◌};
 ghost use Rattle.archive.specs.Alike.{Alike};
 ghost use Rattle.indexes.specs.Pairs.{pair_means, pair_meaning};

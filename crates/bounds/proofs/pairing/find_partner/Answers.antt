@@ -23,4 +23,4 @@ loop-b-smaller c =
     size_less 64 c.without-rest-in-Some.result c.loop-b.rest c.in-Some.b (without_was _ _ _ w) low.fits low.has w.gone
 
 pub returns : goal.returns
-returns c = looking_none c.args.table.now.rows c.args.left c.args.a c.loop-b.rest c.loop-b.invariant c.in-default.ensures
+returns c = looking_none c.args.table.now.rows c.args.left c.args.a c.loop-b.rest c.loop-b.invariant c.in_default.ensures

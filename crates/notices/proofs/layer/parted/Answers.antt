@@ -6,7 +6,7 @@ pub returns-then-bars-pair : goal.returns-then-bars-pair
 returns-then-bars-pair c = sym (any_hit _ _ _ _ c.loop-notice-test.true (sym c.if-bars-pair.ensures))
 
 pub loop-notice-preserved : goal.loop-notice-preserved
-loop-notice-preserved c = any_miss _ _ _ _ c.loop-notice-test.true c.loop-notice.invariant (sym c.if-bars-pair.ensures)
+loop-notice-preserved c = any_miss _ _ _ _ c.loop-notice-test.true c.loop-notice.invariant (sym c.if-bars_pair.ensures)
 
 pub returns : goal.returns
 returns c = sym (any_all _ _ _ c.loop-notice-test.false c.loop-notice.invariant)

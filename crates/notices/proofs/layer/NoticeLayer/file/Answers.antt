@@ -14,5 +14,5 @@ returns-then-of-one-component g c =
 pub returns-then-holds : goal.returns-then-holds
 returns-then-holds g c =
     let u = not_from_Decides _ c.misses.ensures c.if-misses.false in
-    let o = not_from_Decides _ c.of-one-component.ensures c.if-of-one-component.false in
+    let o = not_from_Decides _ c.of_one_component.ensures c.if-of_one_component.false in
     record { below = refl; notices = (file_filed (g.A.Archive.meaning c.args.self.now.below) _ _ u o (sym c.if-holds.ensures), refl) }
