@@ -2,8 +2,8 @@ use Rattle.std.proofs.Common.{sym}
 use Rattle.tables.proofs.Anys.{any_hit, any_miss, any_all}
 use Rattle.notices.proofs.layer.parted.Goals as goal
 
-pub returns-then-bars-pair : goal.returns-then-bars-pair
-returns-then-bars-pair c = sym (any_hit _ _ _ _ c.loop-notice-test.true (sym c.if-bars-pair.ensures))
+pub returns-then-bars_pair : goal.returns-then-bars_pair
+returns-then-bars_pair c = sym (any_hit _ _ _ _ c.loop-notice-test.true (sym c.if-bars_pair.ensures))
 
 pub loop-notice-preserved : goal.loop-notice-preserved
 loop-notice-preserved c = any_miss _ _ _ _ c.loop-notice-test.true c.loop-notice.invariant (sym c.if-bars_pair.ensures)

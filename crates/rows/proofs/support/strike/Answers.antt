@@ -32,8 +32,8 @@ scan-preserved c =
     scanned_more c.args.p.now c.args.row.now c.support-masks.result c.args.y c.scan.x c.scan.row c.scan.changed c.loop-r.row c.loop-r.changed c.loop-r.lost _ _
     c.requires c.scan-test.true c.support-masks.ensures c.scan.invariant c.loop-r.invariant
 
-pub returns-then-is-empty : goal.returns-then-is-empty
-returns-then-is-empty c =
+pub returns-then-is_empty : goal.returns-then-is_empty
+returns-then-is_empty c =
     let one = strike_one c.args.p.now c.support-masks.result c.scan.x c.scan.row c.scan.changed c.loop-r.row c.loop-r.changed c.loop-r.lost _ c.loop-r.invariant c.scan-test.true
     c.in-Some.r c.in-Some.ensures.fits c.in-Some.ensures.has c.without-lost.result c.without-lost.ensures c.without.result c.without.ensures c.with-changed.result c.with-changed.ensures in
     let all = scanned_more c.args.p.now c.args.row.now c.support-masks.result c.args.y c.scan.x c.scan.row c.scan.changed _ c.with-changed.result c.without-lost.result _ _
@@ -41,6 +41,6 @@ returns-then-is-empty c =
     record {
       narrower = all.narrower;
       keeps = all.keeps;
-      dead = struck_empty c.args.p.now c.args.row.now _ c.scan.x c.scan-test.true all.keeps (c.is-empty.ensures.0 c.if-is-empty.true);
+      dead = struck_empty c.args.p.now c.args.row.now _ c.scan.x c.scan-test.true all.keeps (c.is_empty.ensures.0 c.if-is_empty.true);
       falls = all.falls;
     }
