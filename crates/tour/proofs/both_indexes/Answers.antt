@@ -7,4 +7,4 @@ use Rattle.tour.proofs.Same.{same_meaning}
 use Rattle.tour.proofs.both_indexes.Goals as goal
 
 pub returns : goal.returns
-returns c = subst (λ m. Alike m (pair_means c.by-pairs.result)) (sym c.by-ranges.ensures) (subst (λ m. Alike (range_meaning components needs_rows) m) (sym c.by-pairs.ensures) same_meaning)
+returns c = subst (λ m. Alike m (pair_means c.by_pairs.result)) (sym c.by_ranges.ensures) (subst (λ m. Alike (range_meaning components needs_rows) m) (sym c.by_pairs.ensures) same_meaning)

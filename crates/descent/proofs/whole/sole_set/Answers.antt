@@ -18,13 +18,13 @@ each P xs i x l h p k =
 
 pub loop-c-preserved : goal.loop-c-preserved
 loop-c-preserved c =
-    let h = c.in-ok-set.ensures in
+    let h = c.in_ok-set.ensures in
     let i : ℕ = c.loop-c.c in
     let l : i < length c.loop-c.set = omega (arith, c.loop-c.invariant.0, c.loop-c-test.true, c.args.p.now.few) in (
-      length-set c.loop-c.set i c.in-ok-set.field-0 ∙ c.loop-c.invariant.0,
-      below_more (λ k. Open c.args.row.now k (at (set c.loop-c.set i c.in-ok-set.field-0) k)) i
-          (λ k m. subst (Open c.args.row.now k) (sym (get_or-set_other c.loop-c.set i k c.in-ok-set.field-0 0 (λ e. absurd (omega arith)))) (c.loop-c.invariant.1 k m))
-          (subst (Open c.args.row.now i) (sym (get_or-set_same c.loop-c.set i c.in-ok-set.field-0 0 l)) h.has),
-      each (λ _ x. x < 32) c.loop-c.set i c.in-ok-set.field-0 l c.loop-c.invariant.2 h.fits,
-      λ k m. get_or-set_other c.loop-c.set i k c.in-ok-set.field-0 0 (λ e. absurd (omega arith)) ∙ c.loop-c.invariant.3 k (omega arith),
+      length-set c.loop-c.set i c.in_ok-set.field-0 ∙ c.loop-c.invariant.0,
+      below_more (λ k. Open c.args.row.now k (at (set c.loop-c.set i c.in_ok-set.field-0) k)) i
+          (λ k m. subst (Open c.args.row.now k) (sym (get_or-set_other c.loop-c.set i k c.in_ok-set.field-0 0 (λ e. absurd (omega arith)))) (c.loop-c.invariant.1 k m))
+          (subst (Open c.args.row.now i) (sym (get_or-set_same c.loop-c.set i c.in_ok-set.field-0 0 l)) h.has),
+      each (λ _ x. x < 32) c.loop-c.set i c.in_ok-set.field-0 l c.loop-c.invariant.2 h.fits,
+      λ k m. get_or-set_other c.loop-c.set i k c.in_ok-set.field-0 0 (λ e. absurd (omega arith)) ∙ c.loop-c.invariant.3 k (omega arith),
     )

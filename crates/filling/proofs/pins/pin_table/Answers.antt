@@ -6,7 +6,7 @@ use Rattle.filling.proofs.pins.pin_table.Goals as goal
 
 pub loop-a-preserved : goal.loop-a-preserved
 loop-a-preserved c = (
-  set_more (λ k x. (b : ℕ) → b < c.args.components → Same (Has x b) (Parted c.args.opens.now c.args.pins.now c.args.suits.now k b)) c.loop-a.rows c.loop-a.a c.pin-row.result 0
-      (omega (arith, c.loop-a.invariant.1, c.loop-a-test.true, c.requires)) c.loop-a.invariant.0 c.pin-row.ensures,
-  length-set c.loop-a.rows c.loop-a.a c.pin-row.result ∙ c.loop-a.invariant.1,
+  set_more (λ k x. (b : ℕ) → b < c.args.components → Same (Has x b) (Parted c.args.opens.now c.args.pins.now c.args.suits.now k b)) c.loop-a.rows c.loop-a.a c.pin_row.result 0
+      (omega (arith, c.loop-a.invariant.1, c.loop-a-test.true, c.requires)) c.loop-a.invariant.0 c.pin_row.ensures,
+  length-set c.loop-a.rows c.loop-a.a c.pin_row.result ∙ c.loop-a.invariant.1,
 )
