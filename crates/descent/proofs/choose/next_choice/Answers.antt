@@ -6,7 +6,7 @@ use Rattle.descent.proofs.choose.next_choice.Goals as goal
 -- a component with two open releases has a highest
 pub returns-in_err-release : goal.returns-in_err-release
 returns-in_err-release c =
-    absurd (omega (arith, c.in_ok-component.ensures.1, size_empty 32 (get_or c.args.row.now c.in_ok-component.component 0) c.in-err-release.ensures))
+    absurd (omega (arith, c.in_ok-component.ensures.1, size_empty 32 (get_or c.args.row.now c.in_ok-component.component 0) c.in_err-release.ensures))
 
 pub returns-then-has : goal.returns-then-has
 returns-then-has c =
