@@ -6,8 +6,8 @@ use Rattle.search.proofs.Standing.{far_few}
 use Rattle.search.proofs.Settling.{found_one, untried_less}
 use Rattle.search.proofs.first.settle.Goals as goal
 
-pub overflow-add-limit : goal.overflow-add-limit
-overflow-add-limit g c = omega (arith, c.requires.least.stands.at_distance.far_is, far_few c.args.p.now (at c.args.at_hand.set), c.args.p.now.few)
+pub overflow_add-limit : goal.overflow_add-limit
+overflow_add-limit g c = omega (arith, c.requires.least.stands.at_distance.far_is, far_few c.args.p.now (at c.args.at_hand.set), c.args.p.now.few)
 
 pub returns-in-Some-below : goal.returns-in-Some-below
 returns-in-Some-below g c =
@@ -22,4 +22,4 @@ loop-r-smaller g c =
 pub loop-r-preserved : goal.loop-r-preserved
 loop-r-preserved g c =
     untried_less c.args.p.now c.args.row.now c.told-row c.args.c c.requires.inside c.args.at_hand c.requires.least c.loop-r.left c.loop-r.invariant c.in-Some.r c.in-Some.ensures
-    c.only.result c.only.ensures c.in-default-below.ensures c.without-left.result c.without-left.ensures
+    c.only.result c.only.ensures c.in_default-below.ensures c.without-left.result c.without-left.ensures
