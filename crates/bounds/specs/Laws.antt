@@ -18,6 +18,9 @@ all_reach rows opens g h = total_mono g (bit opens) 64 each where
   each : (c : ℕ) → c < 64 → g c ≤ bit opens c
   each c l = elim (cases_eq (g c) 1) [ inl e ↦ omega (arith, h.inside c l e, e) | inr ne ↦ omega (arith, h.bits c, ne) ]
 
+pub all_most : Most (λ _ opens. size 64 opens)
+all_most rows opens = omega arith
+
 -- ---- pairing: a group within a set
 
 pub record Kept (rows : List ℕ) (left : ℕ → Bool) (g : ℕ → ℕ) : Type 0 where

@@ -1,7 +1,6 @@
 // The counting bound: all the open pins.
 ghost use Rattle.masks.specs.Masks.{size};
-ghost use Rattle.bounds.specs.Laws.{all_reach};
-ghost use Rattle.std.proofs.Common.{arith};
+ghost use Rattle.bounds.specs.Laws.{all_reach, all_most};
 
 use super::Bound;
 use super::table::PinTable;
@@ -15,7 +14,7 @@ impl Bound for CountingBound {
 
     ghost reaches = { λ s. all_reach };
 
-    ghost most = { λ s rows opens. omega arith };
+    ghost most = { λ s. all_most };
 
     fn most_kept(&self, _table: &PinTable, pins: u64) -> u32 {
         word64::count(pins)

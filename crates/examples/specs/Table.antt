@@ -1,5 +1,5 @@
 use Rattle.std.specs.Prelude.{List, [], ◌∷◌}
-use Rattle.std.specs.List.{AllByRecursion as All}
+use Rattle.std.specs.List.{AllByRecursion}
 use Rattle.indexes.specs.declared.components.ComponentRow.{ComponentRow}
 use Rattle.examples.specs.Resolving.{Resolving, Resolves, no_lawful_set, gives}
 use Rattle.examples.specs.Rows.{offering, needing, clashing}
@@ -65,4 +65,4 @@ resolving_examples = no_components ∷ no_pin ∷ no_releases ∷ three_relation
 
 -- every example comes to what its row says
 abbrev pub WorkedExamples : Type 0
-WorkedExamples = All Resolves resolving_examples
+WorkedExamples = AllByRecursion Resolves resolving_examples
