@@ -1,5 +1,5 @@
-use Rattle.std.proofs.Common.{◌≡◌, ℕ, ◌<◌, ◌≤◌, List, get_or, sym, ◌∙◌, arith}
-use Rattle.archive.specs.Meaning.{Meaning, Offered}
+use Rattle.std.proofs.Common.{ℕ, ◌<◌, List, get_or, sym, ◌∙◌, arith}
+use Rattle.archive.specs.Meaning.{Meaning}
 use Rattle.archive.specs.Sets.{Lawful}
 use Rattle.archive.specs.Alike.{Alike}
 

@@ -1,7 +1,6 @@
-use Rattle.std.proofs.Common.{◌≡◌, ℕ, zero, suc, ◌<◌, ◌≤◌, ◌≢◌, ◌⊎◌, List, [], ◌∷◌, length, get_or, sym, refl, ap, ◌∙◌, subst, inl, inr, ⊎_elim, arith}
+use Rattle.std.proofs.Common.{◌≡◌, ℕ, zero, suc, ◌<◌, ◌≢◌, ◌⊎◌, List, [], ◌∷◌, get_or, sym, refl, ◌∙◌, subst, inl, inr, ⊎_elim, arith}
 use Rattle.std.proofs.lemmas.Bool.{cases_order, cases_eq, cases_lt}
-use Rattle.archive.specs.Meaning.{Meaning}
-use Rattle.archive.specs.Sets.{FirstLeast, Before, Prefers, distance, OrderIsTotal, OrderIsStrict, FirstLeastIsUnique}
+use Rattle.archive.specs.Sets.{Before, Prefers, distance, OrderIsTotal, OrderIsStrict, FirstLeastIsUnique}
 
 -- of two different releases the one is preferred
 pub prefers_one : (p x y : ℕ) → x ≢ y → Prefers p x y ⊎ Prefers p y x

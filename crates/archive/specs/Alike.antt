@@ -1,6 +1,5 @@
-use Rattle.std.specs.Prelude.{◌≡◌, ℕ, ◌≢◌, List}
+use Rattle.std.specs.Prelude.{◌≡◌, ℕ, ◌≢◌}
 use Rattle.archive.specs.Meaning.{Meaning, Offered}
-use Rattle.archive.specs.Sets.{Lawful, FirstLeast}
 
 -- two meanings agree on what is offered and on what is barred
 pub record Alike (m m' : Meaning) : Type 0 where

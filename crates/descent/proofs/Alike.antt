@@ -1,4 +1,4 @@
-use Rattle.std.proofs.Common.{◌≡◌, ℕ, ◌^◌, ◌<◌, ◌≤◌, List, get_or, ap, subst}
+use Rattle.std.proofs.Common.{◌≡◌, ℕ, ◌^◌, ◌<◌, List, get_or, ap, subst}
 use Rattle.archive.specs.Sets.{moved}
 use Rattle.masks.proofs.Sizes.{size_one}
 use Rattle.masks.proofs.Totals.{total_same}

@@ -1,9 +1,9 @@
-use Rattle.std.proofs.Common.{◌≡◌, ℕ, zero, suc, ◌+◌, ◌-◌, ◌<◌, ◌≤◌, Bool, true, false, cond, eqb, ltb, ◌≢◌, ◌⊎◌, List, get_or, sym, refl, ap, ◌∙◌, subst, inl, inr, arith}
-use Rattle.std.proofs.lemmas.Bool.{cases_eq, cases_lt, eq-eqb, ne_eqb, lt-ltb, le-ltb}
+use Rattle.std.proofs.Common.{◌≡◌, ℕ, zero, suc, ◌+◌, ◌-◌, ◌<◌, ◌≤◌, Bool, true, false, cond, eqb, ltb, ◌⊎◌, List, get_or, sym, refl, ap, ◌∙◌, subst, inl, inr, arith}
+use Rattle.std.proofs.lemmas.Bool.{cases_eq, cases_lt, ne_eqb, lt-ltb, le-ltb}
 use Rattle.archive.specs.Sets.{moved}
 use Rattle.bounds.specs.Clashes.{Group, Clash}
 use Rattle.masks.specs.Masks.{Has, With, total}
-use Rattle.masks.proofs.Totals.{total_same, total_front}
+use Rattle.masks.proofs.Totals.{total_front}
 use Rattle.masks.proofs.Words.{with_was, with_stays, nothing}
 use Rattle.rows.specs.Rows.{Open, Agrees, Within, far}
 use Rattle.rows.specs.Suits.{Suits}

@@ -1,4 +1,4 @@
-use Rattle.std.specs.Prelude.{ℕ, ◌<◌, cond, ◌≢◌, List, ◌==◌, slice_index}
+use Rattle.std.specs.Prelude.{ℕ, ◌<◌, cond, List, ◌==◌, slice_index}
 use Rattle.masks.specs.Masks.{Has, total}
 use Rattle.rows.specs.Rows.{Open}
 use Rattle.rows.specs.declared.problem.Problem.{Problem}

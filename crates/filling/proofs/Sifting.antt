@@ -1,6 +1,6 @@
-use Rattle.std.proofs.Common.{◌≡◌, ℕ, ◌+◌, ◌<◌, ◌≤◌, Bool, true, false, ◌≢◌, ◌⊎◌, sym, ◌∙◌, subst, inl, inr, arith}
+use Rattle.std.proofs.Common.{◌≡◌, ℕ, ◌+◌, ◌<◌, ◌≤◌, Bool, true, false, ◌⊎◌, sym, ◌∙◌, subst, inl, inr, arith}
 use Rattle.std.proofs.lemmas.Bool.{cases_eq, cases_lt, both_ways}
-use Rattle.masks.specs.Masks.{Has, Empty, With, Without}
+use Rattle.masks.specs.Masks.{Has, With, Without}
 use Rattle.masks.proofs.Words.{nothing, with_was, with_stays, without_was, without_stays}
 use Rattle.filling.specs.Filled.{Same, Free}
 

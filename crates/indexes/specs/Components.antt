@@ -1,4 +1,4 @@
-use Rattle.std.specs.Prelude.{◌≡◌, ℕ, ◌<◌, min, Bool, true, false, not, ◌&&◌, ◌||◌, List, [], length, get_or, nat_lt, slice_index_or}
+use Rattle.std.specs.Prelude.{ℕ, min, Bool, false, not, ◌&&◌, ◌||◌, List, [], length, get_or, nat_lt, slice_index_or}
 use Rattle.archive.specs.Meaning.{Meaning}
 use Rattle.indexes.specs.declared.components.ComponentRow.{ComponentRow}
 

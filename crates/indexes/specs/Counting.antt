@@ -1,11 +1,11 @@
-use Rattle.std.specs.Prelude.{◌≡◌, ℕ, ◌<◌, ◌≤◌, Bool, true, false, not, ◌&&◌, ◌||◌, ◌≢◌, ◌⊎◌, List, length, Decides, ◌==◌, refl}
+use Rattle.std.specs.Prelude.{◌≡◌, ℕ, ◌<◌, ◌≤◌, Bool, true, false, not, ◌&&◌, ◌||◌, ◌≢◌, List, length, Decides, ◌==◌, refl}
 use Rattle.std.proofs.Common.{sym, ap, subst, ◌∙◌, inl, inr}
 use Rattle.std.proofs.lemmas.Bool.{cases_eq, lt-ltb, le-ltb, eq-eqb, ne_eqb, and_from, and_left, or_left, or_from, not_from_true, not_from_false}
 use Rattle.std.proofs.lemmas.Bool.Decides.{Decides-not, Decides-and, Decides-eqb, Decides-at}
-use Rattle.archive.specs.Meaning.{Meaning, Sound, Offered}
+use Rattle.archive.specs.Meaning.{Sound}
 use Rattle.tables.specs.Any.{any, SomeRow}
 use Rattle.tables.proofs.Anys.{any_none, any_same, any_decides}
-use Rattle.indexes.specs.Components.{offers, releases_of, withdraws, indexed}
+use Rattle.indexes.specs.Components.{offers, releases_of, indexed}
 use Rattle.indexes.specs.declared.components.ComponentRow.{ComponentRow}
 use Rattle.indexes.specs.Offering.{releases_past, releases_few}
 

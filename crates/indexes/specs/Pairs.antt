@@ -1,4 +1,4 @@
-use Rattle.std.specs.Prelude.{◌≡◌, ℕ, ◌<◌, ◌≤◌, Bool, true, false, not, ◌&&◌, ◌||◌, ◌≢◌, ◌⊎◌, List, length, take, Decides, ◌==◌}
+use Rattle.std.specs.Prelude.{ℕ, Bool, not, ◌&&◌, ◌≢◌, List, take, Decides, ◌==◌}
 use Rattle.archive.specs.Choices.{names_both, NamesBoth}
 use Rattle.archive.specs.Meaning.{Meaning, Offered}
 use Rattle.tables.specs.Any.{any, SomeRow}

@@ -1,4 +1,4 @@
-use Rattle.std.specs.Prelude.{◌≡◌, ℕ, ◌<◌, ◌≤◌, Bool, true, false, not, ◌&&◌, ◌||◌, ◌≢◌, ◌⊎◌, List, length, take, Decides, ◌==◌, nat_le, nat_lt}
+use Rattle.std.specs.Prelude.{◌≡◌, ℕ, ◌≤◌, Bool, not, ◌&&◌, ◌||◌, ◌≢◌, ◌⊎◌, List, length, take, Decides, ◌==◌, nat_le, nat_lt}
 use Rattle.archive.specs.Choices.{names, Names}
 use Rattle.archive.specs.Meaning.{Meaning, Offered}
 use Rattle.tables.specs.Any.{any, SomeRow}

@@ -1,4 +1,4 @@
-use Rattle.std.proofs.Common.{◌≡◌, ℕ, zero, suc, ◌+◌, ◌-◌, ◌*◌, ◌/◌, ◌%◌, ◌^◌, ◌<◌, ◌≤◌, max, true, not, eqb, ◌≢◌, ◌⊎◌, Decides, sym, refl, ap, ◌∙◌, subst, inl, inr, arith}
+use Rattle.std.proofs.Common.{◌≡◌, ℕ, zero, suc, ◌+◌, ◌-◌, ◌*◌, ◌/◌, ◌%◌, ◌^◌, ◌<◌, ◌≤◌, max, true, not, eqb, ◌≢◌, ◌⊎◌, Decides, sym, refl, ◌∙◌, subst, inl, inr, arith}
 use lib.Bits.{bit_and, bit_or, bit_xor, and_lt}
 use lib.Count.{count_leading_zeros, count_trailing_zeros, under}
 use Rattle.std.proofs.lemmas.Nat.{one_shl, leading_top, mod_below}

@@ -1,4 +1,4 @@
-use Rattle.std.specs.Prelude.{◌≡◌, ℕ, ◌≤◌, Bool, true, false, ◌⊎◌, List, [], ◌∷◌, ◌++◌, length, Result}
+use Rattle.std.specs.Prelude.{◌≡◌, ◌≤◌, true, false, ◌⊎◌, List, [], ◌∷◌, ◌++◌, length, Result}
 use Rattle.archive.specs.Meaning.{Meaning}
 use Rattle.archive.specs.declared.choice.Choice.{Choice}
 use Rattle.refusals.specs.Refusals.{says, silent, Ends}

@@ -1,4 +1,4 @@
-use Rattle.std.proofs.Common.{◌≡◌, ℕ, suc, ◌+◌, ◌<◌, ◌⊎◌, sym, refl, ap, ◌∙◌, subst, inl, inr, arith, rules}
+use Rattle.std.proofs.Common.{◌≡◌, ◌+◌, ◌<◌, sym, refl, ap, subst, inl, inr, arith, rules}
 use Rattle.std.proofs.lemmas.Bool.{cases_order}
 use Rattle.refusals.specs.Refusals.{numbered, place, says, silent, Declines, Accepts, OrderTellsApart, NumbersTellApart}
 use Rattle.refusals.specs.declared.Refusal.{Refusal}

@@ -1,4 +1,4 @@
-use Rattle.std.specs.Prelude.{◌≡◌, ℕ, ◌+◌, ◌<◌, ◌≤◌, List, slice_index}
+use Rattle.std.specs.Prelude.{ℕ, ◌<◌, List, slice_index}
 use Rattle.archive.specs.Sets.{moved}
 use Rattle.masks.specs.Masks.{Has, total, size}
 use Rattle.rows.specs.Suits.{Suits}

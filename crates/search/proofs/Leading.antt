@@ -1,11 +1,10 @@
-use Rattle.std.proofs.Common.{◌≡◌, ℕ, ◌+◌, ◌<◌, ◌≤◌, ◌≢◌, ◌⊎◌, List, length, get_or, set, sym, refl, ap, ◌∙◌, subst, inl, inr, arith}
-use Rattle.std.proofs.lemmas.List.{length-set}
+use Rattle.std.proofs.Common.{◌≡◌, ℕ, ◌+◌, ◌<◌, ◌≤◌, ◌⊎◌, List, length, get_or, set, sym, refl, ◌∙◌, subst, inl, inr, arith}
 use Rattle.std.proofs.lemmas.Bool.{cases_eq}
 use Rattle.archive.specs.Sets.{Prefers}
 use Rattle.masks.specs.Masks.{Has, Only}
-use Rattle.rows.specs.Rows.{at, Open, Within, Agrees, far, Narrower, Keeps}
+use Rattle.rows.specs.Rows.{at, Open, Narrower, Keeps}
 use Rattle.rows.specs.declared.problem.Problem.{Problem}
-use Rattle.rows.proofs.Rows.{at_same, at_other, set_narrower, set_within}
+use Rattle.rows.proofs.Rows.{at_same, set_narrower, set_within}
 use Rattle.descent.specs.Judged.{Barren}
 use Rattle.descent.specs.declared.found.Found.{Found}
 use Rattle.search.specs.Ranked.{At, Stands, Least, Settles, Ahead, Leads}

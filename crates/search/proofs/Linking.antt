@@ -1,12 +1,11 @@
-use Rattle.std.proofs.Common.{◌≡◌, ℕ, ◌+◌, ◌<◌, ◌≤◌, false, ◌≢◌, ◌⊎◌, List, [], ◌∷◌, length, get_or, take, sym, refl, ap, ◌∙◌, subst, inl, inr, arith}
+use Rattle.std.proofs.Common.{◌≡◌, ℕ, ◌+◌, ◌<◌, ◌≤◌, false, ◌⊎◌, List, [], ◌∷◌, length, get_or, take, sym, refl, ap, ◌∙◌, subst, inl, inr, arith}
 use Rattle.std.proofs.lemmas.List.{get_or-take, get_or_default, length-take-le, ext_get_or}
 use Rattle.std.proofs.lemmas.Bool.{cases_eq}
-use Rattle.archive.specs.Meaning.{Meaning, Sound, Offered}
-use Rattle.archive.specs.Sets.{Lawful, moved, distance, Prefers, Before, FirstLeast}
+use Rattle.archive.specs.Meaning.{Meaning, Sound}
+use Rattle.archive.specs.Sets.{Lawful, moved, distance, Prefers, Before}
 use Rattle.masks.specs.Masks.{total}
 use Rattle.masks.proofs.Totals.{total_shift}
 use Rattle.rows.specs.Rows.{at, Open, Within, Agrees, Dead, far, Narrower, Keeps}
-use Rattle.rows.specs.declared.problem.Problem.{Problem}
 use Rattle.descent.proofs.Alike.{alike_agrees, alike_within, alike_far}
 use Rattle.descent.specs.Judged.{Barren}
 use Rattle.descent.specs.declared.found.Found.{Found}

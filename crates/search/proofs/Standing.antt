@@ -1,4 +1,4 @@
-use Rattle.std.proofs.Common.{◌≡◌, ℕ, ◌+◌, ◌<◌, ◌≤◌, Bool, true, false, cond, eqb, List, get_or, Some, None, Option, sym, subst, arith, MatchOption}
+use Rattle.std.proofs.Common.{◌≡◌, ℕ, ◌+◌, ◌≤◌, Bool, true, false, cond, eqb, List, get_or, Some, None, Option, sym, subst, arith, MatchOption}
 use Rattle.archive.specs.Sets.{moved}
 use Rattle.masks.proofs.Totals.{total_le}
 use Rattle.rows.specs.Rows.{Dead, far}

@@ -1,4 +1,4 @@
-use Rattle.std.specs.Prelude.{◌≡◌, ℕ, ◌+◌, ◌<◌, ◌≤◌, ◌⊎◌, List, slice_index}
+use Rattle.std.specs.Prelude.{◌≡◌, ℕ, ◌<◌, ◌≤◌, ◌⊎◌, List, slice_index}
 use Rattle.archive.specs.Sets.{Prefers}
 use Rattle.descent.specs.Judged.{Barren}
 use Rattle.descent.specs.declared.found.Found.{Found}

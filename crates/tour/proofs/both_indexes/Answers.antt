@@ -1,6 +1,6 @@
 use Rattle.std.proofs.Common.{sym, subst}
 use Rattle.archive.specs.Alike.{Alike}
-use Rattle.indexes.specs.Ranges.{range_means, range_meaning}
+use Rattle.indexes.specs.Ranges.{range_meaning}
 use Rattle.indexes.specs.Pairs.{pair_means}
 use Rattle.tour.specs.Example.{components, needs_rows}
 use Rattle.tour.proofs.Same.{same_meaning}

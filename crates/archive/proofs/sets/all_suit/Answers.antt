@@ -1,4 +1,4 @@
-use Rattle.std.proofs.Common.{◌≡◌, ℕ, ◌<◌, refl, arith}
+use Rattle.std.proofs.Common.{ℕ, ◌<◌, refl, arith}
 use Rattle.archive.specs.Suited.{Suits}
 use Rattle.archive.proofs.Suiting.{lawful_from_suits}
 use Rattle.archive.proofs.sets.all_suit.Goals as goal

@@ -1,4 +1,4 @@
-use Rattle.std.proofs.Common.{ℕ, get_or, arith}
+use Rattle.std.proofs.Common.{get_or, arith}
 use Rattle.masks.proofs.Bits.{has_below}
 use Rattle.masks.proofs.Sizes.{size_empty}
 use Rattle.descent.proofs.choose.next_choice.Goals as goal

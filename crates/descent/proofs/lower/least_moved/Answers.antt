@@ -1,5 +1,5 @@
 use Rattle.std.proofs.Common.{arith}
-use Rattle.descent.proofs.Pins.{kept, kept_group, pins_moved}
+use Rattle.descent.proofs.Pins.{kept_group, pins_moved}
 use Rattle.descent.proofs.lower.least_moved.Goals as goal
 
 pub returns : goal.returns

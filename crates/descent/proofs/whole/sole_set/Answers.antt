@@ -1,4 +1,4 @@
-use Rattle.std.proofs.Common.{◌≡◌, ℕ, ◌+◌, ◌<◌, ◌≤◌, List, length, set, sym, refl, ◌∙◌, subst, inl, inr, arith, length-set, below_more}
+use Rattle.std.proofs.Common.{ℕ, ◌<◌, List, length, set, sym, refl, ◌∙◌, subst, inl, inr, arith, length-set, below_more}
 use Rattle.std.proofs.lemmas.List.{get_or-set_same, get_or-set_other}
 use Rattle.std.proofs.lemmas.Bool.{cases_eq}
 use Rattle.rows.specs.Rows.{at, Open}

@@ -1,4 +1,4 @@
-use Rattle.std.proofs.Common.{◌≡◌, ℕ, ◌+◌, Bool, sym, ◌∙◌, subst, arith}
+use Rattle.std.proofs.Common.{ℕ, ◌+◌, Bool, sym, ◌∙◌, subst, arith}
 use Rattle.filling.proofs.Sifting.{Upto, upto_none, upto_skip, upto_more, upto_all}
 use Rattle.filling.proofs.opening.unbarred.Goals as goal
 use Rattle.filling.proofs.opening.unbarred.Goals.{then-not-withdrawn, else-not-withdrawn}

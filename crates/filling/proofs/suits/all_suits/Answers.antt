@@ -1,4 +1,4 @@
-use Rattle.std.proofs.Common.{ℕ, ◌<◌, get_or, ◌∙◌, arith, length-set}
+use Rattle.std.proofs.Common.{ℕ, get_or, ◌∙◌, arith, length-set}
 use Rattle.rows.specs.Rows.{Open}
 use Rattle.rows.specs.Suits.{no_row, no_rows}
 use Rattle.filling.specs.Filled.{Suiting}

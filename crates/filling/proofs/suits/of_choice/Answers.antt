@@ -1,4 +1,4 @@
-use Rattle.std.proofs.Common.{◌≡◌, ℕ, ◌<◌, Bool, get_or, sym, ◌∙◌, subst, arith, length-set}
+use Rattle.std.proofs.Common.{ℕ, ◌<◌, get_or, sym, ◌∙◌, subst, arith, length-set}
 use Rattle.archive.specs.Meaning.{Meaning}
 use Rattle.filling.specs.Filled.{FreeAmong}
 use Rattle.filling.proofs.Entries.{set_more}

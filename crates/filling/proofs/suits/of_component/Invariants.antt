@@ -1,4 +1,4 @@
-use Rattle.std.proofs.Common.{◌≡◌, ℕ, ◌^◌, ◌<◌, length, get_or}
+use Rattle.std.proofs.Common.{◌≡◌, ℕ, length, get_or}
 use Rattle.masks.specs.Masks.{Has, size}
 use Rattle.rows.specs.Rows.{Open}
 use Rattle.rows.specs.Suits.{no_row}

@@ -1,4 +1,3 @@
-use Rattle.std.proofs.Common.{arith}
 use Rattle.masks.proofs.Words.{only_shifted, only_nothing}
 use Rattle.masks.proofs.word64.only.Goals as goal
 

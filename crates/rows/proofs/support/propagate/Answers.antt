@@ -1,5 +1,4 @@
-use Rattle.std.proofs.Common.{ℕ, ◌<◌, IfSome, Option, subst, arith}
-use Rattle.masks.specs.Masks.{size}
+use Rattle.std.proofs.Common.{ℕ, IfSome, Option, subst, arith}
 use Rattle.masks.proofs.Sizes.{size_less, size_union}
 use Rattle.masks.proofs.Words.{without_was}
 use Rattle.rows.specs.Rows.{Dead}

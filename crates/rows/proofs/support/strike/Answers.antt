@@ -1,7 +1,6 @@
 use Rattle.std.proofs.Common.{refl, arith}
 use Rattle.masks.proofs.Sizes.{size_none}
-use Rattle.masks.specs.Masks.{size}
-use Rattle.rows.proofs.Striking.{Striking, striking_none, strike_one, strike_less, scanned_more, struck_empty}
+use Rattle.rows.proofs.Striking.{striking_none, strike_one, strike_less, scanned_more, struck_empty}
 use Rattle.rows.proofs.support.strike.Goals as goal
 
 pub scan-init : goal.scan-init

@@ -1,5 +1,4 @@
-use Rattle.std.proofs.Common.{◌≡◌, ℕ, ◌<◌, length}
-use Rattle.masks.specs.Masks.{Has, size}
+use Rattle.masks.specs.Masks.{size}
 use Rattle.rows.proofs.Striking.{Gathered}
 use Rattle.rows.proofs.support.support.Given as goal
 

@@ -1,4 +1,3 @@
-use Rattle.std.proofs.Common.{◌+◌, ◌≤◌}
 use Rattle.search.proofs.Standing.{Lowered}
 use Rattle.search.proofs.least.least.Given as goal
 

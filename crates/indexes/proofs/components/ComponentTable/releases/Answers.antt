@@ -1,4 +1,4 @@
-use Rattle.std.proofs.Common.{◌≡◌, ◌≤◌, length, sym, ap, subst, arith}
+use Rattle.std.proofs.Common.{◌≤◌, length, sym, ap, arith}
 use Rattle.tables.specs.Held.{held}
 use Rattle.indexes.specs.Offering.{releases_past}
 use Rattle.indexes.proofs.components.ComponentTable.releases.Goals as goal
