@@ -1,5 +1,5 @@
 use Rattle.std.proofs.Common.{◌≡◌, ℕ, ◌<◌, Bool, true, not, ◌&&◌, ◌||◌, eqb, ltb, ◌⊎◌, List, [], ◌∷◌, length, sym, refl, ◌∙◌, inl, inr, arith}
-use Rattle.std.specs.List.{AllByRecursion as All}
+use Rattle.std.specs.List.{AllByRecursion}
 use Rattle.std.proofs.lemmas.Bool.{and_parts, eqb-true, ltb-true, not-true, or_cases}
 use Rattle.std.proofs.lemmas.Bool.Decides.{not_from_Decides}
 use Rattle.archive.specs.Meaning.{Meaning}
@@ -54,7 +54,7 @@ abbrev all_resolve : List Resolving → Bool
 all_resolve [] = true
 all_resolve (x ∷ xs) = resolves x && all_resolve xs
 
-all_tested : (xs : List Resolving) → all_resolve xs ≡ true → All Resolves xs
+all_tested : (xs : List Resolving) → all_resolve xs ≡ true → AllByRecursion Resolves xs
 all_tested [] h = tt
 all_tested (x ∷ xs) h =
     let each = and_parts (resolves x) (all_resolve xs) h in

@@ -4,7 +4,8 @@ ghost use Rattle.indexes.specs.Components.{offers};
 ghost use Rattle.indexes.specs.Pairs.{joins, pair_means, pair_meaning, ClashByPairs, pair_counts};
 ghost use Rattle.tables.specs.Any.{any};
 ghost use Rattle.tables.specs.Held.{held};
-ghost use Rattle.tables.proofs.Rows.{held_few};
+ghost use Rattle.std.proofs.Common.{lit≤};
+ghost use Rattle.tables.proofs.Rows.{held_within};
 ghost use Rattle.indexes.specs.Counting.{indexed_sound};
 ghost use Rattle.indexes.specs.Pairing.{pair_rows};
 
@@ -89,7 +90,7 @@ fn joined(rows: &[PairRow], x: Choice, y: Choice) -> bool
 impl Archive for PairIndex {
     ghost meaning = { pair_means };
 
-    ghost sound = { λ s. indexed_sound (held s.components.rows) (pair_counts (held s.components.rows)) joins (pair_rows (held s.components.rows)) (held s.pairs) (held_few s.components.rows) };
+    ghost sound = { λ s. indexed_sound (held s.components.rows) (pair_counts (held s.components.rows)) joins (pair_rows (held s.components.rows)) (held s.pairs) (held_within s.components.rows 64 (lit≤ tt)) };
 
     fn components(&self) -> u8 {
         self.components.count()

@@ -4,7 +4,8 @@ ghost use Rattle.indexes.specs.Components.{offers};
 ghost use Rattle.indexes.specs.Ranges.{leaves_out, parts, range_means, range_meaning, ClashByRanges, needs_count};
 ghost use Rattle.tables.specs.Any.{any};
 ghost use Rattle.tables.specs.Held.{held};
-ghost use Rattle.tables.proofs.Rows.{held_few};
+ghost use Rattle.std.proofs.Common.{lit≤};
+ghost use Rattle.tables.proofs.Rows.{held_within};
 ghost use Rattle.indexes.specs.Counting.{indexed_sound};
 ghost use Rattle.indexes.specs.Ranging.{range_rows};
 
@@ -101,7 +102,7 @@ fn parted(rows: &[NeedsRow], x: Choice, y: Choice) -> bool
 impl Archive for RangeIndex {
     ghost meaning = { range_means };
 
-    ghost sound = { λ s. indexed_sound (held s.components.rows) (needs_count (held s.components.rows)) parts (range_rows (held s.components.rows)) (held s.needs) (held_few s.components.rows) };
+    ghost sound = { λ s. indexed_sound (held s.components.rows) (needs_count (held s.components.rows)) parts (range_rows (held s.components.rows)) (held s.needs) (held_within s.components.rows 64 (lit≤ tt)) };
 
     fn components(&self) -> u8 {
         self.components.count()

@@ -10,6 +10,10 @@ length_held t = simp length-take (omega (arith, t.within, t.whole))
 pub held_few : {T : Type 0} {n : ℕ} (t : Table T n) → length (held t) ≤ n
 held_few t = omega (arith, length_held t, t.within)
 
+-- and at most m, where it has room for no more
+pub held_within : {T : Type 0} {n : ℕ} (t : Table T n) (m : ℕ) → n ≤ m → length (held t) ≤ m
+held_within t m h = omega (arith, held_few t, h)
+
 -- xs with the first i of ys behind them: one more, all, and as many as there is room for
 pub behind_more : {X : Type 0} (xs ys zs : List X) (i : ℕ) (d : X) → i < length ys → zs ≡ xs ++ take i ys → zs ++ get_or ys i d ∷ [] ≡ xs ++ take (i + 1) ys
 behind_more xs ys zs i d h e = ap (λ l. l ++ get_or ys i d ∷ []) e ∙ append_assoc xs (take i ys) (get_or ys i d ∷ []) ∙ ap (λ l. xs ++ l) (sym (take_more ys i d h))
