@@ -1,5 +1,3 @@
-pub mod Suiting
 pub mod Ordering
-pub mod Agreeing
 pub mod Naming
 pub mod Below

@@ -71,3 +71,6 @@ first_least_is_unique m ps s t f h =
       | inl q ↦ q
       | inr b ↦ elim (h.first s f.lawful (sym e)) [ inl q ↦ sym q | inr d ↦ absurd (order_is_strict ps s t b d) ]
     ]
+
+-- what is wanted of the order for itself
+pub ruleset order_laws = (order_is_total, order_is_strict, first_least_is_unique)

@@ -13,25 +13,8 @@ pub fn lawful<A: Archive>(archive: &A, set: &[u8]) -> bool
     ensures value { Decides result (Lawful (A.Archive.meaning archive.now) set.now) }
     ensures alike { (m : Meaning) → Alike (A.Archive.meaning archive.now) m → Decides result (Lawful m set.now) }
 {
-    is_lawful(archive, set)
-}
-
-fn is_lawful<A: Archive>(archive: &A, set: &[u8]) -> bool
-    ensures { Decides result (Lawful (A.Archive.meaning archive.now) set.now) }
-{
-    set.len() == archive.components() as usize && all_suit(archive, set)
-}
-
-fn all_suit<A: Archive>(archive: &A, set: &[u8]) -> bool
-    requires { length set.now ≡ (A.Archive.meaning archive.now).components }
-    ensures { Decides result (Lawful (A.Archive.meaning archive.now) set.now) }
-{
-    for a in 0..archive.components() {
-        if !suits(archive, set, a) {
-            return false;
-        }
-    }
-    true
+    set.len() == archive.components() as usize
+        && (0..archive.components()).all(|a| suits(archive, set, a))
 }
 
 // Whether the choice of component a is barred neither alone nor with that of a later component.
@@ -40,21 +23,7 @@ fn suits<A: Archive>(archive: &A, set: &[u8], a: u8) -> bool
     requires within { a < length set.now }
     ensures { Decides result (Suits (A.Archive.meaning archive.now) set.now a) }
 {
-    let x = Choice {
-        component: a,
-        release: set[a as usize],
-    };
-    if archive.withdrawn(x) {
-        return false;
-    }
-    for b in a + 1..archive.components() {
-        let y = Choice {
-            component: b,
-            release: set[b as usize],
-        };
-        if archive.clash(x, y) {
-            return false;
-        }
-    }
-    true
+    let x = Choice::new(a, set[a as usize]);
+    let clashes = |b: u8| archive.clash(x, Choice::new(b, set[b as usize]));
+    !archive.withdrawn(x) && !(a + 1..archive.components()).any(clashes)
 }

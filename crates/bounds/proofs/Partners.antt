@@ -1,5 +1,5 @@
-use Rattle.std.proofs.Common.{◌≡◌, ℕ, ◌<◌, Bool, true, false, ◌≢◌, List, subst, inl, inr, arith}
-use Rattle.std.proofs.lemmas.Bool.{cases_Bool, eqb-true, eq-eqb, and_parts, and_from}
+use Rattle.std.proofs.Common.{◌≡◌, ℕ, ◌<◌, true, false, ◌≢◌, List, subst, arith}
+use Rattle.std.proofs.lemmas.Bool.{eqb-true, eq-eqb, and_parts, and_from, false_from_ne_true}
 use Rattle.masks.specs.Masks.{Has, Empty, Without, Lowest}
 use Rattle.masks.proofs.Words.{without_was, without_stays}
 use Rattle.bounds.specs.Clashes.{Clash}
@@ -11,9 +11,6 @@ use Rattle.bounds.specs.Sets.{clashes_decides, without_parts, without_from}
 pub record Looking (rows : List ℕ) (left a rest : ℕ) : Type 0 where
   pub others : (c : ℕ) → Has rest c → Has left c × (c ≢ a)
   pub every : (c : ℕ) → rivals rows (members left) a c ≡ true → Has rest c
-
-unless : (b : Bool) → (b ≡ true → ⊥) → b ≡ false
-unless b never = elim (cases_Bool b) [ inl t ↦ absurd (never t) | inr f ↦ f ]
 
 rival_parts : (rows : List ℕ) (left a c : ℕ) → rivals rows (members left) a c ≡ true → Has left c × (c ≢ a) × Clash rows a c
 rival_parts rows left a c t =
@@ -42,8 +39,11 @@ looking_found rows left a rest b h low clash =
           and_from _ _ (without_from (members left) a b (eq-eqb _ 1 o.0) o.1) ((clashes_decides rows a b).1 clash)
 
       under : (c : ℕ) → c < b → rivals rows (members left) a c ≡ false
-      under c l = unless _ (λ t. absurd (omega (arith, low.bottom c (h.every c t))))
+      under c l = false_from_ne_true _ (λ t. absurd (omega (arith, low.bottom c (h.every c t))))
 
 pub looking_none : (rows : List ℕ) (left a rest : ℕ) → Looking rows left a rest → Empty rest → partner rows (members left) a ≡ 64
 looking_none rows left a rest h none =
-    lowest_none (rivals rows (members left) a) 64 (λ c l. unless _ (λ t. none c (h.every c t)))
+    lowest_none (rivals rows (members left) a) 64 (λ c l. false_from_ne_true _ (λ t. none c (h.every c t)))
+
+-- the loop of the search for a partner
+pub ruleset looks = (looking_all, looking_on, looking_found, looking_none)

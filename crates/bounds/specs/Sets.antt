@@ -1,5 +1,6 @@
 use Rattle.std.specs.Prelude.{◌≡◌, ℕ, ◌<◌, Bool, true, false, not, ◌&&◌, ◌≢◌, ◌⊎◌, List, Decides, ◌==◌, nat_eq, refl}
 use Rattle.std.proofs.Common.{sym, ap, subst, ◌∙◌, inl, inr}
+use Rattle.std.proofs.Math.Bool.{and-true}
 use Rattle.std.proofs.lemmas.Bool.{cases_eq, eqb-false, eq-eqb, ne_eqb, and_parts, and_right, not-true, not_from_true, false≢true}
 use Rattle.std.proofs.lemmas.Bool.Decides.{Decides-eqb, Decides-or}
 use Rattle.masks.specs.Masks.{bit, Without, size}
@@ -24,10 +25,7 @@ clashes_decides rows a b = Decides-or _ _ (Decides-eqb _ 1) (Decides-eqb _ 1)
 -- ---- what is left
 
 pub without_other : (left : ℕ → Bool) (a c : ℕ) → c ≢ a → without left a c ≡ left c
-without_other left a c ne = ap (λ (x : Bool). left c && not x) (ne_eqb c a ne) ∙ and_true (left c) where
-  and_true : (x : Bool) → (x && true) ≡ x
-  and_true true = refl
-  and_true false = refl
+without_other left a c ne = ap (λ (x : Bool). left c && not x) (ne_eqb c a ne) ∙ and-true (left c)
 
 pub without_same : (left : ℕ → Bool) (a : ℕ) → without left a a ≡ false
 without_same left a = and_right (left a) (not (a == a)) (not_from_true (a == a) (eq-eqb a a refl))

@@ -4,7 +4,7 @@ ghost use Rattle.bounds.specs.Laws.{all_reach, all_most};
 
 use super::Bound;
 use super::table::PinTable;
-use masks::word64;
+use masks::word::Word;
 
 #[derive(Clone, Copy)]
 pub struct CountingBound;
@@ -17,6 +17,6 @@ impl Bound for CountingBound {
     ghost most = { λ s. all_most };
 
     fn most_kept(&self, _table: &PinTable, pins: u64) -> u32 {
-        word64::count(pins)
+        pins.count()
     }
 }

@@ -7,7 +7,7 @@ ghost use Rattle.bounds.specs.Laws.{pairs_reach, pairs_most};
 
 use super::Bound;
 use super::table::PinTable;
-use masks::word64;
+use masks::word::Word;
 
 #[derive(Clone, Copy)]
 pub struct PairingBound;
@@ -24,7 +24,9 @@ impl Bound for PairingBound {
     }
 }
 
-// How many groups the pins fall into.
+// How many groups the pins fall into. Here and below a table and a set of pins are two parameters, as in the question
+// of the trait: the table stays while pins go.
+#[tactic(auto, using(masks::proofs::Sizes::size_few))]
 fn count_groups(table: &PinTable, pins: u64) -> u32
     ensures { result ≡ pairs table.now.rows pins }
 {
@@ -38,36 +40,36 @@ fn count_groups(table: &PinTable, pins: u64) -> u32
 }
 
 // What is left once the lowest pin is taken with its partner; none where no pin is left.
+#[tactic(auto, using(crate::proofs::Turns::turn_none, crate::proofs::Turns::turn_some))]
 fn round(table: &PinTable, left: u64) -> Option<u64>
     ensures { MatchOption result (pairs table.now.rows left ≡ 0) (λ rest. Round table.now.rows left rest) }
 {
-    match word64::lowest(left) {
-        Some(a) => Some(take(left, a, find_partner(table, left, a))),
-        None => None,
-    }
+    let a = left.lowest()?;
+    Some(take(left, a, find_partner(table, left, a)))
 }
 
 // What is left without a and its partner, if it has one.
 fn take(left: u64, a: u8, other: Option<u8>) -> u64
     ensures { Taken left a other result }
 {
-    let alone = word64::without(left, a);
+    let alone = left.without(a);
     match other {
-        Some(b) => word64::without(alone, b),
+        Some(b) => alone.without(b),
         None => alone,
     }
 }
 
 // The lowest other pin that clashes with a.
+#[tactic(auto, using(crate::proofs::Partners::looks, masks::proofs::Sizes::size_lowest))]
 fn find_partner(table: &PinTable, left: u64, a: u8) -> Option<u8>
     ensures { Found result (partner table.now.rows (members left) a) }
 {
-    let mut rest = word64::without(left, a);
-    while let Some(b) = word64::lowest(rest) {
+    let mut rest = left.without(a);
+    while let Some(b) = rest.lowest() {
         if table.clash(a, b) {
             return Some(b);
         }
-        rest = word64::without(rest, b);
+        rest = rest.without(b);
     }
     None
 }

@@ -2,7 +2,7 @@
 ghost use Rattle.std.specs.Prelude.{ℕ, Decides};
 ghost use Rattle.bounds.specs.Clashes.{Marks, Clash, Marked};
 
-use masks::word64;
+use masks::word::Word;
 
 // One row of 64 marks for each component's pin. A caller's table may mark a clash in one of the two rows only.
 #[derive(Clone, Copy)]
@@ -22,8 +22,10 @@ impl PinTable {
     pub fn mark(&mut self, a: u8, b: u8)
         ensures { Marked self.old.rows a b self.new.rows }
     {
+        // `get_mut` was tried, and the proof did not close: after it the array's length is known, and no element.
         if a < 64 && b < 64 {
-            self.rows[a as usize] = word64::with(self.rows[a as usize], b);
+            let row = &mut self.rows[usize::from(a)];
+            *row = row.with(b);
         }
     }
 
@@ -35,9 +37,10 @@ impl PinTable {
     }
 
     // Whether a's row marks b.
+    #[tactic(auto, using(crate::proofs::Tables::past_clear))]
     fn marks(&self, a: u8, b: u8) -> bool
         ensures { Decides result (Marks self.now.rows a b) }
     {
-        a < 64 && word64::has(self.rows[a as usize], b)
+        self.rows.get(usize::from(a)).is_some_and(|row| row.has(b))
     }
 }

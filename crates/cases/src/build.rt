@@ -1,12 +1,7 @@
 // Short ways to write rows.
 use archive::choice::Choice;
 use indexes::components::ComponentRow;
-use indexes::pair::PairRow;
 use indexes::range::NeedsRow;
-
-pub(super) fn choice(component: u8, release: u8) -> Choice {
-    Choice { component, release }
-}
 
 pub(super) fn component(releases: u8) -> ComponentRow {
     ComponentRow {
@@ -22,8 +17,4 @@ pub(super) fn needs(choice: Choice, other: u8, low: u8, high: u8) -> NeedsRow {
         low,
         high,
     }
-}
-
-pub(super) fn pair(first: Choice, second: Choice) -> PairRow {
-    PairRow { first, second }
 }

@@ -1,7 +1,7 @@
-use super::build::{choice, component, needs, pair};
+use super::build::{component, needs};
 use archive::Archive;
 use archive::choice::Choice;
-use indexes::pair::PairIndex;
+use indexes::pair::{PairIndex, PairRow};
 use indexes::range::RangeIndex;
 use notices::layer::NoticeLayer;
 use notices::notice::Notice;
@@ -27,26 +27,26 @@ fn a_release_count_above_32_reads_as_32(rt: HostRuntime) {
     for (given, expected) in [(0, 0), (1, 1), (31, 31), (32, 32), (33, 32), (255, 32)] {
         let index = RangeIndex::new(&[component(given)], &[]);
         assert_eq!(rt; index.releases(0), expected);
-        assert_eq!(rt; index.withdrawn(choice(0, 31)), expected < 32);
-        assert!(rt; index.withdrawn(choice(0, 32)));
+        assert_eq!(rt; index.withdrawn(Choice::new(0, 31)), expected < 32);
+        assert!(rt; index.withdrawn(Choice::new(0, 32)));
     }
 }
 
 // Whether a needs row, or a pair row, that stands after so many others makes 0:0 and 1:0 clash.
 fn needs_row_counts_after(rt: &impl Abort, others: usize) -> bool {
-    let mut rows = [needs(choice(0, 1), 1, 0, 0); 514];
+    let mut rows = [needs(Choice::new(0, 1), 1, 0, 0); 514];
     assert!(rt; others < 514);
-    rows[others] = needs(choice(0, 0), 1, 1, 1);
+    rows[others] = needs(Choice::new(0, 0), 1, 1, 1);
     let index = RangeIndex::new(&[component(2), component(2)], &rows);
-    index.clash(choice(0, 0), choice(1, 0))
+    index.clash(Choice::new(0, 0), Choice::new(1, 0))
 }
 
 fn pair_row_counts_after(rt: &impl Abort, others: usize) -> bool {
-    let mut rows = [pair(choice(0, 1), choice(1, 1)); 1026];
+    let mut rows = [PairRow::new(Choice::new(0, 1), Choice::new(1, 1)); 1026];
     assert!(rt; others < 1026);
-    rows[others] = pair(choice(1, 0), choice(0, 0));
+    rows[others] = PairRow::new(Choice::new(1, 0), Choice::new(0, 0));
     let index = PairIndex::new(&[component(2), component(2)], &rows);
-    index.clash(choice(0, 0), choice(1, 0))
+    index.clash(Choice::new(0, 0), Choice::new(1, 0))
 }
 
 #[test]
@@ -79,14 +79,14 @@ fn the_65th_notice_is_refused(rt: HostRuntime) {
         &[component(32), component(32), component(1)],
         &[],
     ));
-    let late = Notice::Single(choice(2, 0));
+    let late = Notice::Single(Choice::new(2, 0));
     for c in 0..2 {
         for r in 0..32 {
-            assert_eq!(rt; layer.file(Notice::Single(choice(c, r))).err(), None);
+            assert_eq!(rt; layer.file(Notice::Single(Choice::new(c, r))), Ok(()));
         }
     }
-    assert_eq!(rt; layer.file(late).err(), Some(Refusal::NoticesFull));
-    assert_eq!(rt; layer.lift(Notice::Single(choice(0, 5))).err(), None);
-    assert_eq!(rt; layer.file(late).err(), None);
+    assert_eq!(rt; layer.file(late), Err(Refusal::NoticesFull));
+    assert_eq!(rt; layer.lift(Notice::Single(Choice::new(0, 5))), Ok(()));
+    assert_eq!(rt; layer.file(late), Ok(()));
     assert_eq!(rt; layer.notices().len(), 64);
 }

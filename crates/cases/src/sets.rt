@@ -1,8 +1,9 @@
-use super::build::{choice, component, needs, pair};
+use super::build::{component, needs};
+use archive::choice::Choice;
 use archive::order::{NO_PIN, compare};
 use archive::sets::lawful;
 use indexes::components::ComponentRow;
-use indexes::pair::PairIndex;
+use indexes::pair::{PairIndex, PairRow};
 use indexes::range::RangeIndex;
 use std::cmp::Ordering;
 
@@ -24,17 +25,17 @@ fn a_set_needs_one_release_for_every_component(rt: HostRuntime) {
 #[test]
 fn lawful_sets_by_ranges(rt: HostRuntime) {
     let rows = [
-        needs(choice(0, 0), 1, 1, 0),
-        needs(choice(0, 1), 1, 0, 0),
-        needs(choice(0, 2), 1, 0, 1),
-        needs(choice(0, 0), 2, 0, 0),
-        needs(choice(0, 1), 2, 1, 1),
-        needs(choice(0, 2), 2, 2, 2),
-        needs(choice(1, 0), 2, 1, 2),
-        needs(choice(1, 2), 2, 0, 1),
-        needs(choice(2, 0), 1, 1, 2),
-        needs(choice(2, 1), 1, 0, 0),
-        needs(choice(2, 2), 1, 0, 1),
+        needs(Choice::new(0, 0), 1, 1, 0),
+        needs(Choice::new(0, 1), 1, 0, 0),
+        needs(Choice::new(0, 2), 1, 0, 1),
+        needs(Choice::new(0, 0), 2, 0, 0),
+        needs(Choice::new(0, 1), 2, 1, 1),
+        needs(Choice::new(0, 2), 2, 2, 2),
+        needs(Choice::new(1, 0), 2, 1, 2),
+        needs(Choice::new(1, 2), 2, 0, 1),
+        needs(Choice::new(2, 0), 1, 1, 2),
+        needs(Choice::new(2, 1), 1, 0, 0),
+        needs(Choice::new(2, 2), 1, 0, 1),
     ];
     let index = RangeIndex::new(&[component(3), component(3), component(3)], &rows);
     for a in 0..3u8 {
@@ -52,7 +53,10 @@ fn every_pair_of_components_is_looked_at(rt: HostRuntime) {
     let components = [component(2); 5];
     for a in 0..5u8 {
         for b in 0..5u8 {
-            let index = PairIndex::new(&components, &[pair(choice(b, 1), choice(a, 1))]);
+            let index = PairIndex::new(
+                &components,
+                &[PairRow::new(Choice::new(b, 1), Choice::new(a, 1))],
+            );
             let mut set = [0; 5];
             set[a as usize] = 1;
             set[b as usize] = 1;

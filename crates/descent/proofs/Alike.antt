@@ -1,4 +1,7 @@
-use Rattle.std.proofs.Common.{◌≡◌, ℕ, ◌^◌, ◌<◌, List, get_or, ap, subst}
+use Rattle.std.proofs.Common.{◌≡◌, ℕ, ◌^◌, ◌<◌, Bool, true, false, List, length, get_or, Decides, MatchBool, sym, refl, ap, ◌∙◌, subst, arith}
+use Rattle.std.specs.List.{AllWithin, HoldsAt, range_with_len}
+use Rattle.std.proofs.lemmas.List.FromFn.{length-range_with_len, get_or-range_with_len}
+use Rattle.std.proofs.lemmas.Bool.{false≢true}
 use Rattle.archive.specs.Sets.{moved}
 use Rattle.masks.proofs.Sizes.{size_one}
 use Rattle.masks.proofs.Totals.{total_same}
@@ -26,3 +29,17 @@ alike_far p s t e =
 pub sole : (p : Problem) (row set : List ℕ) → ((c : ℕ) → get_or row c 0 < 2 ^ 32) → Settled p row → Picked p row set → (s : ℕ → ℕ) → Within p.components row s → Alike p.components s (at set)
 sole p row set fits settled picked s within c l =
     size_one 32 (get_or row c 0) (s c) (at set c) (fits c) (settled c l) (within c l) (picked.within c l)
+
+-- the choice of a suits each
+abbrev pub SuitsEach : Problem → List ℕ → ℕ → Type 0
+SuitsEach p set a = (b : ℕ) → b < p.components → Suits p.suits a (at set a) b (at set b)
+
+-- whether all do, from the answers at each component
+pub each_suits : (p : Problem) (set : List ℕ) (r : Bool)
+    → MatchBool r (AllWithin (SuitsEach p set) (range_with_len 0 p.components) 0 (length (range_with_len 0 p.components)))
+    ((k : ℕ) × (k < length (range_with_len 0 p.components)) × HoldsAt (λ a. SuitsEach p set a → ⊥) (range_with_len 0 p.components) k)
+    → Decides r (Agrees p (at set))
+each_suits p set true h = (λ _ a b la lb. subst (SuitsEach p set) (get_or-range_with_len 0 p.components a 0 la ∙ omega arith) (h a 0 (omega arith) (omega (arith, length-range_with_len 0 p.components))) b lb, λ _. refl)
+each_suits p set false (k, l, unsuited) =
+    let inside : k < p.components = omega (arith, length-range_with_len 0 p.components) in
+    (λ e. absurd (false≢true e), λ agrees. absurd (unsuited 0 (subst (SuitsEach p set) (sym (get_or-range_with_len 0 p.components k 0 inside ∙ omega arith)) (λ b lb. agrees k b inside lb))))

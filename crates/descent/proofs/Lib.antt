@@ -1,6 +1,7 @@
 pub mod Powers
 pub mod Pins
-pub mod Candidates
+pub mod Options
 pub mod Alike
 pub mod Heights
 pub mod Stack
+pub mod Counts

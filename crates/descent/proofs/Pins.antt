@@ -1,45 +1,13 @@
-use Rattle.std.proofs.Common.{◌≡◌, ℕ, zero, suc, ◌+◌, ◌-◌, ◌<◌, ◌≤◌, Bool, true, false, cond, eqb, ltb, ◌⊎◌, List, get_or, sym, refl, ap, ◌∙◌, subst, inl, inr, arith}
+use Rattle.std.proofs.Common.{◌≡◌, ℕ, zero, suc, ◌+◌, ◌-◌, ◌<◌, ◌≤◌, Bool, true, false, cond, eqb, ltb, List, get_or, sym, refl, ap, ◌∙◌, subst, inl, inr, arith}
 use Rattle.std.proofs.lemmas.Bool.{cases_eq, cases_lt, ne_eqb, lt-ltb, le-ltb}
 use Rattle.archive.specs.Sets.{moved}
 use Rattle.bounds.specs.Clashes.{Group, Clash}
-use Rattle.masks.specs.Masks.{Has, With, total}
+use Rattle.masks.specs.Masks.{Has, total}
 use Rattle.masks.proofs.Totals.{total_front}
-use Rattle.masks.proofs.Words.{with_was, with_stays, nothing}
 use Rattle.rows.specs.Rows.{Open, Agrees, Within, far}
 use Rattle.rows.specs.Suits.{Suits}
 use Rattle.rows.specs.declared.problem.Problem.{Problem}
 use Rattle.descent.specs.Pins.{stands, pinned, OpenPins}
-
--- ---- the open pins before c
-
-pub record PinsUpto (p : Problem) (row : List ℕ) (c mask : ℕ) : Type 0 where
-  pub only : (k : ℕ) → Has mask k → (k < c) × Open row k (get_or p.pins k 0)
-  pub each : (k : ℕ) → k < c → Open row k (get_or p.pins k 0) → Has mask k
-
-pub pins_none : (p : Problem) (row : List ℕ) → PinsUpto p row 0 0
-pins_none p row = record { only = λ k h. absurd (nothing k h); each = λ k l. absurd (omega arith) }
-
-module _ (p : Problem) (row : List ℕ) (c mask : ℕ) (u : PinsUpto p row c mask) where
-  pub pins_skip : (Open row c (get_or p.pins c 0) → ⊥) → PinsUpto p row (c + 1) mask
-  pins_skip shut = record {
-    only = λ k h. let q = u.only k h in (omega (arith, q.0), q.1);
-    each = λ k l o. elim (cases_eq k c) [
-      | inl e ↦ absurd (shut (subst (λ (x : ℕ). Open row x (get_or p.pins x 0)) e o))
-      | inr ne ↦ u.each k (omega (arith, ne)) o
-    ];
-  }
-
-  pub pins_more : (more : ℕ) → c < 64 → Open row c (get_or p.pins c 0) → With 64 mask c more → PinsUpto p row (c + 1) more
-  pins_more more l here w = record {
-    only = λ k h. from k (with_was 64 mask c more w k h);
-    each = λ k m o. elim (cases_eq k c) [
-      | inl e ↦ subst (Has more) (sym e) (w.has l)
-      | inr ne ↦ with_stays 64 mask c more l w k (u.each k (omega (arith, ne)) o)
-    ];
-  } where
-    from : (k : ℕ) → Has mask k ⊎ (k ≡ c) → (k < c + 1) × Open row k (get_or p.pins k 0)
-    from k (inl h) = let q = u.only k h in (omega (arith, q.0), q.1)
-    from k (inr e) = (omega arith, subst (λ (x : ℕ). Open row x (get_or p.pins x 0)) (sym e) here)
 
 -- ---- kept pins
 

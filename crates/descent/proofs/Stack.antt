@@ -3,12 +3,12 @@ use Rattle.std.proofs.lemmas.List.{get_or-set_same, get_or-set_other, length-set
 use Rattle.std.proofs.lemmas.Bool.{cases_eq, cases_lt}
 use Rattle.archive.specs.declared.choice.Choice.{Choice}
 use Rattle.masks.specs.Masks.{Has, Only, Without, total, size}
-use Rattle.masks.proofs.Sizes.{size_less, size_alone}
+use Rattle.masks.proofs.Sizes.{size_alone}
 use Rattle.masks.proofs.Totals.{total_same}
 use Rattle.masks.proofs.Words.{without_was, without_stays}
 use Rattle.rows.specs.Rows.{at, Open, Within, Agrees, far, Narrower, weight}
 use Rattle.rows.specs.declared.problem.Problem.{Problem}
-use Rattle.rows.proofs.Rows.{weight_mono, set_narrower, set_within, set_weight}
+use Rattle.rows.proofs.Rows.{weight_mono, set_narrower, set_within, set_weight, taken_less}
 use Rattle.descent.specs.Judged.{Barren, Nearer, Splits}
 use Rattle.descent.specs.declared.found.Found.{Found}
 use Rattle.descent.proofs.Heights.{settled, settled_mono, settled_short, set_settled}
@@ -141,7 +141,7 @@ module _ (p : Problem) (first : List ℕ) (limit : ℕ) (rows : List (List ℕ))
   o_sub j h = subst (Open after x.component) (sym (only.alone j h)) sp.at_choice.has
 
   w_less : size 32 w < size 32 (get_or after x.component 0)
-  w_less = size_less 32 w (get_or after x.component 0) x.release w_sub sp.at_choice.fits sp.at_choice.has less.gone
+  w_less = taken_less 32 (get_or after x.component 0) x.release w sp.at_choice.fits sp.at_choice.has less
 
   o_one : size 32 o ≤ 1
   o_one = size_alone 32 o x.release only.alone

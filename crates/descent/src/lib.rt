@@ -1,8 +1,17 @@
 // The search for some set nearer than a limit: rows of open releases are narrowed, cut by the bound, and split.
 #![tactic(auto)]
 
+use rows::problem::Problem;
+
 pub mod below;
 mod choose;
 pub mod found;
 mod lower;
 mod whole;
+
+// A problem, with the bound that cuts the descents through it.
+#[derive(Drop)]
+pub struct Descent<'a, B> {
+    pub problem: &'a Problem,
+    pub bound: &'a B,
+}

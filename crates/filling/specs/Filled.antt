@@ -4,6 +4,7 @@ use Rattle.bounds.specs.Clashes.{Marks}
 use Rattle.masks.specs.Masks.{Has}
 use Rattle.rows.specs.Rows.{Open}
 use Rattle.rows.specs.Suits.{Suits, suit_row}
+use Rattle.rows.specs.declared.suits.SuitRow.{SuitRow}
 use Rattle.rows.specs.declared.suits.SuitRows.{SuitRows}
 use Rattle.filling.specs.declared.Filled.{Filled}
 
@@ -32,11 +33,23 @@ Suiting m opens a i row =
 abbrev pub SuitingUpto : Meaning → List ℕ → ℕ → List SuitRows → Type 0
 SuitingUpto m opens n suits = (a i : ℕ) → a < n → Open opens a i → Suiting m opens a i (suit_row suits a i)
 
+-- if the choice a:i is open: of the open releases of b, the mask has those that do not clash with it
+pub record SuitingAt (m : Meaning) (opens : List ℕ) (a i b mask : ℕ) : Type 0 where
+  pub free : Open opens a i → FreeAmong (slice_index opens b) mask (m.clash a i b)
+
+-- if the choice a:i is open: the row has such a mask for each component
+pub record SuitingIf (m : Meaning) (opens : List ℕ) (a i : ℕ) (row : SuitRow) : Type 0 where
+  pub suiting : Open opens a i → Suiting m opens a i row.masks
+
 -- the pins of a and b are open, and do not suit each other
 pub record Parted (opens pins : List ℕ) (suits : List SuitRows) (a b : ℕ) : Type 0 where
   pub this : Open opens a (slice_index pins a)
   pub that : Open opens b (slice_index pins b)
   pub unsuited : Suits suits a (slice_index pins a) b (slice_index pins b) → ⊥
+
+-- of the first n components, the mask has those whose pins are parted from that of a
+pub record PartedFrom (n : ℕ) (opens pins : List ℕ) (suits : List SuitRows) (a mask : ℕ) : Type 0 where
+  pub same : (b : ℕ) → b < n → Same (Has mask b) (Parted opens pins suits a b)
 
 -- the pins of a and b are not withdrawn, and clash
 pub record PinsClash (m : Meaning) (pins : List ℕ) (a b : ℕ) : Type 0 where

@@ -5,10 +5,12 @@
 ghost use Rattle.filling.specs.Filled.{Means};
 
 use archive::Archive;
+use opened::Opened;
+use pins::Pinned;
 use rows::Row;
 use rows::problem::Problem;
 
-mod opening;
+mod opened;
 mod pins;
 mod suits;
 
@@ -22,10 +24,20 @@ pub struct Filled {
 pub fn fill<A: Archive>(archive: &A, pins: &[u8; 64]) -> Filled
     ensures { Means (A.Archive.meaning archive.now) pins.now result }
 {
-    let components = archive.components();
-    let opens = opening::opening(archive, components);
-    let suits = suits::all_suits(archive, components, &opens);
-    let clashing = pins::pin_table(components, pins, &opens, &suits);
+    let opened = Opened::of(archive);
+    let suits = opened.suits();
+    let Opened {
+        components,
+        opens,
+        ..
+    } = opened;
+    let pinned = Pinned {
+        components,
+        pins,
+        opens: &opens,
+        suits: &suits,
+    };
+    let clashing = pinned.table();
     let problem = Problem {
         components,
         pins: *pins,

@@ -1,48 +1,51 @@
 // The pin table of a search.
-ghost use Rattle.std.specs.Prelude.{◌≡◌, ℕ, ◌<◌, ◌≤◌};
+ghost use Rattle.std.specs.Prelude.{ℕ, ◌<◌, ◌≤◌, Decides};
 ghost use Rattle.bounds.specs.Clashes.{Marks};
-ghost use Rattle.masks.specs.Masks.{Has};
-ghost use Rattle.filling.specs.Filled.{Same, Parted};
+ghost use Rattle.filling.specs.Filled.{Same, Parted, PartedFrom};
 
 use bounds::table::PinTable;
-use masks::{word32, word64};
+use masks::word::Word;
 use rows::Row;
 use rows::suits::SuitRows;
 
-// Marks the open pins that do not suit each other.
-pub(super) fn pin_table(
-    components: u8,
-    pins: &[u8; 64],
-    opens: &Row,
-    suits: &[SuitRows; 64],
-) -> PinTable
-    requires { components ≤ 64 }
-    ensures { (a b : ℕ) → a < components → b < components → Same (Marks result.rows a b) (Parted opens.now pins.now suits.now a b) }
-{
-    let mut rows = [0u64; 64];
-    for a in 0..components {
-        rows[a as usize] = pin_row(components, pins, opens, suits, a);
-    }
-    PinTable { rows }
+// The pins of the components, with what is open and what suits.
+#[derive(Drop)]
+pub(super) struct Pinned<'a> {
+    pub components: u8,
+    pub pins: &'a [u8; 64],
+    pub opens: &'a Row,
+    pub suits: &'a [SuitRows; 64],
+    ghost few: { components ≤ 64 },
 }
 
-// The components whose open pins do not suit the open pin of a.
-fn pin_row(components: u8, pins: &[u8; 64], opens: &Row, suits: &[SuitRows; 64], a: u8) -> u64
-    requires few { components ≤ 64 }
-    requires inside { a < components }
-    ensures { (b : ℕ) → b < components → Same (Has result b) (Parted opens.now pins.now suits.now a b) }
-{
-    let mut mask = 0;
-    let pin = pins[a as usize];
-    if !word32::has(opens[a as usize], pin) {
-        return mask;
-    }
-    let suiting = &suits[a as usize].rows[pin as usize].masks;
-    for b in 0..components {
-        let other = pins[b as usize];
-        if word32::has(opens[b as usize], other) && !word32::has(suiting[b as usize], other) {
-            mask = word64::with(mask, b);
+impl Pinned<'_> {
+    // Marks the open pins that do not suit each other.
+    pub fn table(&self) -> PinTable
+        ensures { (a b : ℕ) → a < 64 → b < self.now.components → Same (Marks result.rows a b) (Parted self.now.opens.now self.now.pins.now self.now.suits.now a b) }
+    {
+        PinTable {
+            rows: std::array::from_fn(|a| self.row(a as u8)),
         }
     }
-    mask
+
+    // The components whose open pins do not suit the open pin of a.
+    fn row(&self, a: u8) -> u64
+        requires { a < 64 }
+        ensures { PartedFrom self.now.components self.now.opens.now self.now.pins.now self.now.suits.now a result }
+    {
+        u64::below(self.components).filter(|b| self.parted(a, b))
+    }
+
+    // Whether the pins of a and b are open and do not suit each other.
+    #[tactic(auto, using(crate::proofs::Filling::below_32))]
+    fn parted(&self, a: u8, b: u8) -> bool
+        requires this { a < 64 }
+        requires that { b < 64 }
+        ensures { Decides result (Parted self.now.opens.now self.now.pins.now self.now.suits.now a b) }
+    {
+        let (pin, other) = (self.pins[a as usize], self.pins[b as usize]);
+        self.opens[a as usize].has(pin)
+            && self.opens[b as usize].has(other)
+            && !self.suits[a as usize].rows[pin as usize].masks[b as usize].has(other)
+    }
 }

@@ -1,4 +1,5 @@
 use Rattle.std.specs.Prelude.{ℕ, min, Bool, false, not, ◌&&◌, ◌||◌, List, [], length, get_or, nat_lt, slice_index_or}
+use Rattle.std.specs.List.{list_any}
 use Rattle.archive.specs.Meaning.{Meaning}
 use Rattle.indexes.specs.declared.components.ComponentRow.{ComponentRow}
 
@@ -25,3 +26,11 @@ indexed rows clashing = record {
   withdrawn = withdraws rows;
   clash = λ a i b j. not (offers rows a i && offers rows b j) || clashing a i b j;
 }
+
+-- some row that counts parts the choices a:i and b:j
+abbrev pub clashing : {X : Type 0} → (X → Bool) → (ℕ → ℕ → ℕ → ℕ → X → Bool) → List X → ℕ → ℕ → ℕ → ℕ → Bool
+clashing counts parts xs a i b j = list_any (λ x. counts x && parts a i b j x) xs
+
+-- the meaning of an index with these component rows and these rows: which rows count, and which choices they part
+abbrev pub by_rows : {X : Type 0} → (List ComponentRow → X → Bool) → (ℕ → ℕ → ℕ → ℕ → X → Bool) → List ComponentRow → List X → Meaning
+by_rows counts parts rows xs = indexed rows (clashing (counts rows) parts xs)

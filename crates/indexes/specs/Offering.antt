@@ -1,8 +1,7 @@
 use Rattle.std.specs.Prelude.{◌≡◌, ℕ, ◌<◌, ◌≤◌, min, true, List, length}
-use Rattle.std.proofs.Common.{ap, inl, inr, arith}
+use Rattle.std.proofs.Common.{ap, arith}
 use Rattle.std.proofs.lemmas.List.{get_or_past}
-use Rattle.std.proofs.lemmas.Bool.{cases_lt}
-use Rattle.std.proofs.lemmas.Bool.Decides.{Decides-ltb}
+use Rattle.std.proofs.lemmas.Bool.Decides.{nat_tests}
 use Rattle.indexes.specs.Components.{absent, releases_of, offers}
 use Rattle.indexes.specs.declared.components.ComponentRow.{ComponentRow}
 
@@ -15,8 +14,4 @@ releases_few rows c = omega arith
 
 -- a component that offers a release has a row
 pub offered_row : (rows : List ComponentRow) (c r : ℕ) → offers rows c r ≡ true → c < length rows
-offered_row rows c r h =
-    elim (cases_lt c (length rows)) [
-      | inl l ↦ l
-      | inr l ↦ let e : releases_of rows c ≡ 0 = releases_past rows c l in absurd (omega (arith, e, (Decides-ltb r (releases_of rows c)).0 h))
-    ]
+offered_row rows c r h = grind (arith, nat_tests, releases_past rows c)

@@ -1,11 +1,11 @@
 use Rattle.std.specs.Prelude.{ℕ, Bool, not, ◌&&◌, ◌≢◌, List, take, Decides, ◌==◌}
 use Rattle.archive.specs.Choices.{names_both, NamesBoth}
 use Rattle.archive.specs.Meaning.{Meaning, Offered}
-use Rattle.tables.specs.Any.{any, SomeRow}
-use Rattle.indexes.specs.Components.{offers, indexed}
+use Rattle.tables.specs.Any.{SomeRow}
+use Rattle.indexes.specs.Components.{offers, by_rows}
 use Rattle.indexes.specs.declared.components.ComponentRow.{ComponentRow}
 use Rattle.indexes.specs.declared.pair.PairRow.{PairRow}
-use Rattle.indexes.specs.declared.pair.PairIndex.{PairIndex}
+use Rattle.indexes.specs.declared.index.Index.{Index}
 use Rattle.tables.specs.Held.{held}
 
 -- the row counts: both choices are offered, and are of two components
@@ -18,10 +18,10 @@ joins a i b j p = names_both p.first p.second a i b j
 
 -- what a pair index means that holds these rows
 abbrev pub by_pairs : List ComponentRow → List PairRow → Meaning
-by_pairs rows ps = indexed rows (λ a i b j. any (λ p. pair_counts rows p && joins a i b j p) ps)
+by_pairs = by_rows pair_counts joins
 
-abbrev pub pair_means : PairIndex → Meaning
-pair_means x = by_pairs (held x.components.rows) (held x.pairs)
+abbrev pub pair_means : {n : ℕ} → Index PairRow n → Meaning
+pair_means x = by_pairs (held x.components.rows) (held x.rows)
 
 -- what a pair index means that is made from these rows: 64 component rows and 1,024 pair rows count
 abbrev pub pair_meaning : List ComponentRow → List PairRow → Meaning

@@ -1,11 +1,11 @@
 use Rattle.std.specs.Prelude.{◌≡◌, ℕ, ◌≤◌, Bool, not, ◌&&◌, ◌||◌, ◌≢◌, ◌⊎◌, List, length, take, Decides, ◌==◌, nat_le, nat_lt}
 use Rattle.archive.specs.Choices.{names, Names}
 use Rattle.archive.specs.Meaning.{Meaning, Offered}
-use Rattle.tables.specs.Any.{any, SomeRow}
-use Rattle.indexes.specs.Components.{offers, indexed}
+use Rattle.tables.specs.Any.{SomeRow}
+use Rattle.indexes.specs.Components.{offers, by_rows}
 use Rattle.indexes.specs.declared.components.ComponentRow.{ComponentRow}
 use Rattle.indexes.specs.declared.range.NeedsRow.{NeedsRow}
-use Rattle.indexes.specs.declared.range.RangeIndex.{RangeIndex}
+use Rattle.indexes.specs.declared.index.Index.{Index}
 use Rattle.tables.specs.Held.{held}
 
 -- the row counts: its choice and the other component are offered, and are of two components
@@ -22,10 +22,10 @@ parts a i b j n = leaves_out n a i b j || leaves_out n b j a i
 
 -- what a range index means that holds these rows
 abbrev pub by_ranges : List ComponentRow → List NeedsRow → Meaning
-by_ranges rows needs = indexed rows (λ a i b j. any (λ n. needs_count rows n && parts a i b j n) needs)
+by_ranges = by_rows needs_count parts
 
-abbrev pub range_means : RangeIndex → Meaning
-range_means x = by_ranges (held x.components.rows) (held x.needs)
+abbrev pub range_means : {n : ℕ} → Index NeedsRow n → Meaning
+range_means x = by_ranges (held x.components.rows) (held x.rows)
 
 -- what a range index means that is made from these rows: 64 component rows and 512 needs rows count
 abbrev pub range_meaning : List ComponentRow → List NeedsRow → Meaning

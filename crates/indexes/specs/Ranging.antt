@@ -1,9 +1,9 @@
-use Rattle.std.specs.Prelude.{◌≡◌, ℕ, ◌<◌, ◌≤◌, true, false, ◌≢◌, ◌⊎◌, List, length, take, Decides, nat_le, nat_lt}
-use Rattle.std.proofs.Common.{sym, ap, ◌∙◌, ⊎_elim, arith}
-use Rattle.std.proofs.lemmas.Bool.{and_from, and_right, lt-ltb, leb-true, le-leb, eq-eqb, ne_eqb, not_from_true, not_from_false}
-use Rattle.std.proofs.lemmas.Bool.Decides.{Decides-and, Decides-or, Decides-eqb, Decides-not}
-use Rattle.archive.proofs.Naming.{names_decides, or_swap}
-use Rattle.indexes.specs.Components.{offers}
+use Rattle.std.specs.Prelude.{ℕ, ◌≤◌, ◌⊎◌, List, take, Decides, nat_le}
+use Rattle.std.proofs.Common.{arith}
+use Rattle.std.proofs.lemmas.Bool.{leb-true, le-leb}
+use Rattle.std.proofs.lemmas.Bool.Decides.{nat_tests, Decides-and, Decides-or, Decides-eqb, Decides-not}
+use Rattle.std.proofs.Math.Bool.{or_comm}
+use Rattle.archive.proofs.Naming.{names_decides}
 use Rattle.indexes.specs.Ranges.{needs_count, leaves_out, parts, LeavesOut, ClashByRanges}
 use Rattle.indexes.specs.declared.components.ComponentRow.{ComponentRow}
 use Rattle.indexes.specs.declared.range.NeedsRow.{NeedsRow}
@@ -19,22 +19,11 @@ leaves_out_decides n a i b j = Decides-and _ _ (names_decides n.choice a i) (Dec
 parts_decides : (a i b j : ℕ) (n : NeedsRow) → Decides (parts a i b j n) (LeavesOut n a i b j ⊎ LeavesOut n b j a i)
 parts_decides a i b j n = Decides-or _ _ (leaves_out_decides n a i b j) (leaves_out_decides n b j a i)
 
--- a row of an offered choice that names another offered component counts
-counted : (rows : List ComponentRow) (n : NeedsRow) (a i b j : ℕ) → offers rows a i ≡ true → offers rows b j ≡ true → a ≢ b → LeavesOut n a i b j → needs_count rows n ≡ true
-counted rows n a i b j p q ne ((ea, ei), (eb, out)) =
-    let l : n.other < length rows = omega (arith, offered_row rows b j q) in
-    and_from _ _ (ap (λ c. offers rows c n.choice.release) ea ∙ ap (λ r. offers rows a r) ei ∙ p)
-    (and_from _ _ (lt-ltb n.other (length rows) l) (not_from_false _ (ne_eqb _ _ (λ e. ne (sym ea ∙ e ∙ eb)))))
-
--- a row of a choice that names its own component does not
-uncounted : (rows : List ComponentRow) (n : NeedsRow) (c i j : ℕ) → LeavesOut n c i c j → needs_count rows n ≡ false
-uncounted rows n c i j ((ea, ei), (eb, out)) = and_right (offers rows n.choice.component n.choice.release) _ (and_right (nat_lt n.other (length rows)) _ (not_from_true _ (eq-eqb _ _ (ea ∙ sym eb))))
-
 pub range_rows : (rows : List ComponentRow) → Rows NeedsRow rows (needs_count rows) parts
 range_rows rows = record {
-  own = λ c i j n h. ⊎_elim (uncounted rows n c i j) (uncounted rows n c j i) ((parts_decides c i c j n).0 h);
-  apart = λ a i b j n p q ne h. ⊎_elim (counted rows n a i b j p q ne) (counted rows n b j a i q p (λ e. ne (sym e))) ((parts_decides a i b j n).0 h);
-  swap = λ a i b j n. or_swap (leaves_out n a i b j) (leaves_out n b j a i);
+  own = λ c i j n h. grind (arith, nat_tests);
+  apart = λ a i b j n p q ne h. grind (arith, nat_tests, offered_row rows a i p, offered_row rows b j q);
+  swap = λ a i b j n. or_comm (leaves_out n a i b j) (leaves_out n b j a i);
 }
 
 pub clash_by_ranges : (rows : List ComponentRow) (needs : List NeedsRow) → ClashByRanges rows needs

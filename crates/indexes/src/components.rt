@@ -7,8 +7,9 @@ use archive::choice::Choice;
 use archive::{MAX_COMPONENTS, MAX_RELEASES};
 use tables::table::Table;
 
-// A component: how many releases it has, and which of them are withdrawn.
-#[derive(Clone, Copy)]
+// A component: how many releases it has, and which of them are withdrawn. The marks are an array, since no memory is
+// allocated (a rule of the project), and callers may mark more releases than there are.
+#[derive(Clone, Copy, Default)]
 pub struct ComponentRow {
     pub releases: u8,
     pub withdrawn: [bool; MAX_RELEASES],
@@ -23,12 +24,8 @@ impl ComponentTable {
     pub(crate) fn of(rows: &[ComponentRow]) -> Self
         ensures { held result.rows ≡ take 64 rows.now }
     {
-        let filler = ComponentRow {
-            releases: 0,
-            withdrawn: [false; MAX_RELEASES],
-        };
         ComponentTable {
-            rows: Table::of(rows, filler),
+            rows: Table::of(rows, ComponentRow::default()),
         }
     }
 
@@ -41,13 +38,8 @@ impl ComponentTable {
     pub(crate) fn releases(&self, component: u8) -> u8
         ensures { result ≡ releases_of (held self.now.rows) component }
     {
-        let rows = self.rows.rows();
-        let c = component as usize;
-        if c < rows.len() {
-            rows[c].releases.min(MAX_RELEASES as u8)
-        } else {
-            0
-        }
+        let row = self.rows.rows().get(component as usize);
+        row.map_or(0, |row| row.releases.min(MAX_RELEASES as u8))
     }
 
     pub(crate) fn offers(&self, x: Choice) -> bool
@@ -59,11 +51,9 @@ impl ComponentTable {
     pub(crate) fn withdraws(&self, x: Choice) -> bool
         ensures { result ≡ withdraws (held self.now.rows) x.component x.release }
     {
-        if !self.offers(x) {
-            return true;
+        match self.rows.rows().get(x.component as usize) {
+            Some(row) if self.offers(x) => row.withdrawn[x.release as usize],
+            _ => true,
         }
-        let rows = self.rows.rows();
-        let row = rows[x.component as usize];
-        row.withdrawn[x.release as usize]
     }
 }

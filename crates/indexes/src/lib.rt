@@ -2,5 +2,6 @@
 #![tactic(auto)]
 
 pub mod components;
+pub mod index;
 pub mod pair;
 pub mod range;

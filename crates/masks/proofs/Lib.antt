@@ -1,4 +1,4 @@
 pub mod Totals
 pub mod Bits
-pub mod Sizes
 pub mod Words
+pub mod Sizes

@@ -1,10 +1,13 @@
-use Rattle.std.proofs.Common.{◌≡◌, ℕ, zero, suc, ◌+◌, ◌-◌, ◌*◌, ◌/◌, ◌%◌, ◌^◌, ◌<◌, ◌≤◌, max, true, not, eqb, ◌≢◌, ◌⊎◌, Decides, sym, refl, ◌∙◌, subst, inl, inr, arith}
-use lib.Bits.{bit_and, bit_or, bit_xor, and_lt}
-use lib.Count.{count_leading_zeros, count_trailing_zeros, under}
-use Rattle.std.proofs.lemmas.Nat.{one_shl, leading_top, mod_below}
-use Rattle.std.proofs.lemmas.Bool.{cases_eq, cases_lt, eqb-true, eqb-false, eq-eqb, ne_eqb, not-true, not_from_false}
-use Rattle.masks.specs.Masks.{bit, Has, Empty, Only, With, Without, Highest, Lowest}
-use Rattle.masks.proofs.Bits.{bit_two, bit_cases, bit_of_and, bit_of_or, bit_minus, bit_pow_same, bit_pow_other, bit_none, bit_beyond, has_below, has_pos, top_has, bit_half, bit_first}
+use Rattle.std.proofs.Common.{◌≡◌, ℕ, zero, suc, ◌+◌, ◌-◌, ◌*◌, ◌%◌, ◌^◌, ◌<◌, ◌≤◌, min, max, Bool, true, false, not, eqb, ◌≢◌, ◌⊎◌, Decides, sym, refl, ap, ◌∙◌, subst, inl, inr, pow-suc, arith}
+use lib.Bits.{bit_and, bit_or, bit_xor}
+use lib.Count.{count_leading_zeros, count_trailing_zeros}
+use mir.Val.{bits}
+use Rattle.std.specs.Int.{Width, w32, w64}
+use Rattle.std.proofs.lemmas.Nat.{one_shl, leading_top}
+use Rattle.std.proofs.lemmas.Nat.Bits.{bit_at-trailing_zeros}
+use Rattle.std.proofs.lemmas.Bool.{cases_eq, cases_lt, eqb-true, eq-eqb}
+use Rattle.masks.specs.Masks.{bit, Has, Empty, Only, With, Without, Below, Highest, Lowest}
+use Rattle.masks.proofs.Bits.{bit_two, bit_cases, bit_of_and, bit_of_or, bit_of_xor, bit_pow_same, bit_pow_other, bit_of_ones, bit_past_ones, bit_none, bit_beyond, has_below, has_pos, top_has}
 
 -- ---- j alone
 
@@ -23,22 +26,40 @@ only_nothing w j l = record { has = λ h. absurd (omega arith); alone = λ k h. 
 only_other : (w j x : ℕ) → Only w j x → (k : ℕ) → k ≢ j → bit x k ≡ 0
 only_other w j x o k ne = elim (bit_cases x k) [ inl e ↦ e | inr h ↦ absurd (ne (o.alone k h)) ]
 
+pub pick_same : (w m j x : ℕ) → Only w j x → m < 2 ^ w → bit (bit_and m x) j ≡ bit m j
+pick_same w m j x o fits =
+    elim (cases_lt j w) [
+      | inl l ↦ omega (arith, bit_of_and m x j, o.has l, bit_two m j)
+      | inr l ↦ omega (arith, bit_of_and m x j, bit_beyond w m j fits l)
+    ]
+
+pub pick_alone : (w m j x : ℕ) → Only w j x → (k : ℕ) → k ≢ j → bit (bit_and m x) k ≡ 0
+pick_alone w m j x o k ne = omega (arith, bit_of_and m x k, only_other w j x o k ne)
+
+-- ---- the numbers below n
+
+pub below_shifted : (w n : ℕ) → n < w → Below w n ((1 * 2 ^ n) % 2 ^ w - 1)
+below_shifted w n l = subst (λ (x : ℕ). Below w n (x - 1)) (sym (one_shl n w l)) (record {
+  has = λ j a b. bit_of_ones n j a;
+  under = λ j h. elim (cases_lt j n) [ inl a ↦ a | inr a ↦ absurd (omega (arith, h, bit_past_ones n j a)) ];
+})
+
+pub below_whole : (w n : ℕ) → w ≤ n → Below w n (2 ^ w - 1)
+below_whole w n l = record {
+  has = λ j a b. bit_of_ones w j b;
+  under = λ j h. elim (cases_lt j w) [ inl a ↦ omega arith | inr a ↦ absurd (omega (arith, h, bit_past_ones w j a)) ];
+}
+
 -- ---- with and without j
 
-pub with_only : (w m j x : ℕ) → Only w j x → With w m j (bit_or m x)
-with_only w m j x o = record {
-  has = λ l. omega (arith, bit_of_or m x j, o.has l, bit_two m j);
-  rest = λ k ne. omega (arith, bit_of_or m x k, only_other w j x o k ne);
+pub with_only : (w m j x r : ℕ) → Only w j x → ((k : ℕ) → bit r k ≡ max (bit m k) (bit x k)) → With w m j r
+with_only w m j x r o h = record {
+  has = λ l. omega (arith, h j, o.has l, bit_two m j);
+  rest = λ k ne. omega (arith, h k, only_other w j x o k ne);
 }
 
-pub without_only : (w m j x : ℕ) → m < 2 ^ w → Only w j x → Without m j (bit_xor m (bit_and m x))
-without_only w m j x fits o = record {
-  gone = λ h. elim (cases_lt j w) [
-    | inl l ↦ absurd (omega (arith, h, bit_minus m x j, o.has l, bit_two m j))
-    | inr l ↦ absurd (omega (arith, h, bit_minus m x j, bit_beyond w m j fits l))
-  ];
-  rest = λ k ne. omega (arith, bit_minus m x k, only_other w j x o k ne);
-}
+pub without_pick : (m j x r : ℕ) → bit x j ≡ bit m j → ((k : ℕ) → k ≢ j → bit x k ≡ 0) → ((k : ℕ) → bit r k ≡ bit m k - bit x k) → Without m j r
+without_pick m j x r same alone h = record { gone = λ o. absurd (omega (arith, o, h j, same)); rest = λ k ne. omega (arith, h k, alone k ne) }
 
 -- what is in m without j was in m
 pub without_was : (m j r : ℕ) → Without m j r → (k : ℕ) → Has r k → Has m k
@@ -58,79 +79,69 @@ with_was w m j r h k o = elim (cases_eq k j) [ inl e ↦ inr e | inr ne ↦ inl 
 pub with_stays : (w m j r : ℕ) → j < w → With w m j r → (k : ℕ) → Has m k → Has r k
 with_stays w m j r l h k o = elim (cases_eq k j) [ inl e ↦ subst (Has r) (sym e) (h.has l) | inr ne ↦ h.rest k ne ∙ o ]
 
+-- ---- nothing
+
+lt_pow : (n : ℕ) → n < 2 ^ n
+lt_pow zero = omega arith
+lt_pow (suc n) = omega (arith, lt_pow n, pow-suc 2 n)
+
+-- a number that is not 0 has a bit
+some_has : (m : ℕ) → 0 < m → (j : ℕ) × Has m j
+some_has m pos = let t = leading_top m m pos (lt_pow m) in (t.0, top_has m t.0 t.2 t.3)
+
+pub empty_decides : (m : ℕ) → Decides (eqb m 0) (Empty m)
+empty_decides m = (λ t k h. absurd (omega (arith, eqb-true m 0 t, has_pos m k h)), λ none. eq-eqb m 0 (zero_of none)) where
+  zero_of : Empty m → m ≡ 0
+  zero_of none = elim (cases_eq m 0) [ inl e ↦ e | inr ne ↦ let s = some_has m (omega (arith, ne)) in absurd (none s.0 s.1) ]
+
+pub pos_some : (m : ℕ) → (Empty m → ⊥) → 0 < m
+pos_some m some = elim (cases_eq m 0) [ inl e ↦ absurd (some (λ k h. absurd (omega (arith, has_pos m k h)))) | inr ne ↦ omega (arith, ne) ]
+
 -- ---- the highest and the lowest
 
-pub highest_top : (w m : ℕ) → 0 < m → m < 2 ^ w → Highest w m (w - 1 - count_leading_zeros w m)
-highest_top w m pos fits = go (leading_top w m pos fits) where
+highest_leading : (w m : ℕ) → (Empty m → ⊥) → m < 2 ^ w → Highest w m (w - 1 - count_leading_zeros w m)
+highest_leading w m some fits = go (leading_top w m (pos_some m some) fits) where
   go : (i : ℕ) × (count_leading_zeros w m + suc i ≡ w) × (2 ^ i ≤ m) × (m < 2 ^ suc i) → Highest w m (w - 1 - count_leading_zeros w m)
   go (i, e, low, high) =
-      let q : i ≡ w - 1 - count_leading_zeros w m = omega arith in
-      subst (Highest w m) q (record {
+      let same : i ≡ w - 1 - count_leading_zeros w m = omega arith in
+      subst (Highest w m) same (record {
         fits = omega arith;
         has = top_has m i low high;
         top = λ k h. omega (arith, has_below (suc i) m k high h);
       })
 
--- below the trailing zeros no bit is set, and the one at their end is
-trailing_clear : (w m k : ℕ) → k < count_trailing_zeros w m → bit m k ≡ 0
-unfolding count_trailing_zeros
-trailing_clear zero m k l = absurd (omega arith)
-trailing_clear (suc w) m k l = go (m % 2) refl (trailing_clear w (m / 2)) k l where
-  go : (d : ℕ) → m % 2 ≡ d → ((k : ℕ) → k < count_trailing_zeros w (m / 2) → bit (m / 2) k ≡ 0) → (k : ℕ) → k < under d (count_trailing_zeros w (m / 2)) → bit m k ≡ 0
-  go zero e rest zero l = bit_first m ∙ e
-  go zero e rest (suc k) l = sym (bit_half m k) ∙ rest k (omega arith)
-  go (suc d) e rest k l = absurd (omega arith)
+pub highest_32 : (m : ℕ) → (Empty m → ⊥) → m < 2 ^ 32 → Highest 32 m (31 - count_leading_zeros 32 m)
+highest_32 = highest_leading 32
 
-trailing_set : (w m : ℕ) → count_trailing_zeros w m < w → Has m (count_trailing_zeros w m)
-unfolding count_trailing_zeros
-trailing_set zero m l = absurd (omega arith)
-trailing_set (suc w) m l = go (m % 2) refl (trailing_set w (m / 2)) l where
-  go : (d : ℕ) → m % 2 ≡ d → (count_trailing_zeros w (m / 2) < w → Has (m / 2) (count_trailing_zeros w (m / 2))) → under d (count_trailing_zeros w (m / 2)) < suc w → Has m (under d (count_trailing_zeros w (m / 2)))
-  go zero e rest l = sym (bit_half m (count_trailing_zeros w (m / 2))) ∙ rest (omega arith)
-  go (suc d) e rest l = omega (arith, bit_first m, e, mod_below m 2 (omega arith))
+pub highest_64 : (m : ℕ) → (Empty m → ⊥) → m < 2 ^ 64 → Highest 64 m (63 - count_leading_zeros 64 m)
+highest_64 = highest_leading 64
 
-pub lowest_bottom : (w m : ℕ) → 0 < m → m < 2 ^ w → Lowest w m (count_trailing_zeros w m)
-lowest_bottom w m pos fits = record { fits = short; has = trailing_set w m short; bottom = bottom } where
-  some : (k : ℕ) × Has m k
-  some = let t = leading_top w m pos fits in (t.0, top_has m t.0 t.2 t.3)
+lowest_trailing : (w : Width) → (m : ℕ) → (Empty m → ⊥) → m < 2 ^ bits w → Lowest (bits w) m (count_trailing_zeros (bits w) m)
+unfolding bit
+lowest_trailing w m some fits = let t = bit_at-trailing_zeros w m (pos_some m some) fits in record {
+  fits = t.0;
+  has = t.1;
+  bottom = λ k h. elim (cases_lt k (count_trailing_zeros (bits w) m)) [ inl l ↦ absurd (omega (arith, h, t.2 k l)) | inr l ↦ l ];
+}
 
-  bottom : (k : ℕ) → Has m k → count_trailing_zeros w m ≤ k
-  bottom k h = elim (cases_lt k (count_trailing_zeros w m)) [ inl l ↦ absurd (omega (arith, h, trailing_clear w m k l)) | inr l ↦ l ]
+pub lowest_32 : (m : ℕ) → (Empty m → ⊥) → m < 2 ^ 32 → Lowest 32 m (count_trailing_zeros 32 m)
+lowest_32 = lowest_trailing w32
 
-  short : count_trailing_zeros w m < w
-  short = omega (arith, bottom some.0 some.1, has_below w m some.0 fits some.1)
-
-pub empty_zero : (m : ℕ) → m ≡ 0 → Empty m
-empty_zero m e k h = absurd (omega (arith, e, has_pos m k h))
-
-pub empty_decides : (w m : ℕ) → m < 2 ^ w → Decides (eqb m 0) (Empty m)
-empty_decides w m fits = (λ t. empty_zero m (eqb-true m 0 t), λ none. eq-eqb m 0 (zero_of none)) where
-  zero_of : Empty m → m ≡ 0
-  zero_of none =
-      elim (cases_eq m 0) [
-        | inl e ↦ e
-        | inr ne ↦ let t = leading_top w m (omega (arith, ne)) fits in absurd (none t.0 (top_has m t.0 t.2 t.3))
-      ]
+pub lowest_64 : (m : ℕ) → (Empty m → ⊥) → m < 2 ^ 64 → Lowest 64 m (count_trailing_zeros 64 m)
+lowest_64 = lowest_trailing w64
 
 -- ---- what two words share
 
-both_has : (a b j : ℕ) → Has (bit_and a b) j → Has a j × Has b j
-both_has a b j o =
-    (omega (arith, o, bit_of_and a b j, bit_two a j, bit_two b j), omega (arith, o, bit_of_and a b j, bit_two a j, bit_two b j))
+pub meets_and : (a b x : ℕ) (e : Bool) → x ≡ bit_and a b → Decides e (Empty x) → Decides (not e) ((j : ℕ) × Has a j × Has b j)
+meets_and a b x true eq (empty, _) = (λ t. absurd cc, λ s. absurd (empty refl s.0 (omega (arith, s.1, s.2, bit_of_and a b s.0, ap (λ (y : ℕ). bit y s.0) eq))))
+meets_and a b x false eq (_, filled) = (λ t. shared (some_has x (pos_some x (λ none. absurd (apart (filled none))))), λ s. refl) where
+  apart : false ≡ true → ⊥
+  apart e = cc
 
-pub meets_decides : (w a b : ℕ) → a < 2 ^ w → b < 2 ^ w → Decides (not (eqb (bit_and a b) 0)) ((j : ℕ) × Has a j × Has b j)
-meets_decides w a b fa fb = (meeting, met) where
-  meeting : not (eqb (bit_and a b) 0) ≡ true → (j : ℕ) × Has a j × Has b j
-  meeting t =
-      let ne = eqb-false (bit_and a b) 0 (not-true (eqb (bit_and a b) 0) t) in
-      let l = leading_top w (bit_and a b) (omega (arith, ne)) (and_lt w a b fa fb) in
-      let o = both_has a b l.0 (top_has (bit_and a b) l.0 l.2 l.3) in
-      (l.0, o.0, o.1)
-
-  met : (j : ℕ) × Has a j × Has b j → not (eqb (bit_and a b) 0) ≡ true
-  met (j, p, q) =
-      let h = has_pos (bit_and a b) j (omega (arith, p, q, bit_of_and a b j)) in
-      not_from_false (eqb (bit_and a b) 0) (ne_eqb (bit_and a b) 0 (λ e. absurd (omega arith)))
+  shared : (j : ℕ) × Has x j → (j : ℕ) × Has a j × Has b j
+  shared (j, h) =
+      let same : bit x j ≡ min (bit a j) (bit b j) = ap (λ (y : ℕ). bit y j) eq ∙ bit_of_and a b j in
+      (j, omega (arith, h, same, bit_two a j), omega (arith, h, same, bit_two b j))
 
 -- ---- union and difference
 
@@ -145,3 +156,12 @@ union_either a b r h j o = elim (bit_cases a j) [ inl e ↦ inr (omega (arith, h
 
 pub minus_has : (a b r : ℕ) → ((j : ℕ) → bit r j ≡ bit a j - bit b j) → (j : ℕ) → Has r j → Has a j × (Has b j → ⊥)
 minus_has a b r h j o = (omega (arith, h j, o, bit_two a j), λ q. absurd (omega (arith, h j, o, q, bit_two a j)))
+
+pub union_or : (a b r : ℕ) → r ≡ bit_or a b → (j : ℕ) → bit r j ≡ max (bit a j) (bit b j)
+union_or a b r e j = ap (λ (x : ℕ). bit x j) e ∙ bit_of_or a b j
+
+-- a ^ (a & b) has a's bit where b has none, and none where b has one
+pub minus_xor : (a b x r : ℕ) → x ≡ bit_and a b → r ≡ bit_xor a x → (j : ℕ) → bit r j ≡ bit a j - bit b j
+minus_xor a b x r e f j =
+    let both : bit x j ≡ min (bit a j) (bit b j) = ap (λ (y : ℕ). bit y j) e ∙ bit_of_and a b j in
+    ap (λ (y : ℕ). bit y j) f ∙ omega (arith, bit_of_xor a x j, both, bit_two a j, bit_two b j)

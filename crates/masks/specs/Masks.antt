@@ -47,3 +47,8 @@ pub record Lowest (w m j : ℕ) : Type 0 where
   pub fits : j < w
   pub has : Has m j
   pub bottom : (k : ℕ) → Has m k → j ≤ k
+
+-- r is the numbers below n, where they are below w
+pub record Below (w n r : ℕ) : Type 0 where
+  pub has : (j : ℕ) → j < n → j < w → Has r j
+  pub under : (j : ℕ) → Has r j → j < n

@@ -2,5 +2,6 @@
 // nowhere else.
 #![tactic(auto)]
 
-pub mod word32;
-pub mod word64;
+pub mod word;
+mod word32;
+mod word64;

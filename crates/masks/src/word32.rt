@@ -1,84 +1,59 @@
 // Sets of numbers below 32.
-ghost use Rattle.std.specs.Prelude.{◌≡◌, ℕ, ◌-◌, ◌<◌, max, Decides, MatchOption};
-ghost use Rattle.masks.specs.Masks.{bit, Has, Empty, Only, With, Without, Highest, size};
+ghost use Rattle.std.proofs.Common.{rules};
 
-// Whether j is in m.
-pub fn has(m: u32, j: u8) -> bool
-    ensures { Decides result (Has m j) }
-{
-    j < 32 && (m >> j) % 2 == 1
-}
+use super::word::Word;
 
-// Whether nothing is in m.
-pub fn is_empty(m: u32) -> bool
-    ensures { Decides result (Empty m) }
-{
-    m == 0
-}
+// Each type has its own methods for what the machine does, and only here is it known that a number fits the width; so
+// these bodies stand once for each width.
+impl Word for u32 {
+    ghost width = { 32 };
 
-// The set of j alone; nothing from 32 on.
-pub fn only(j: u8) -> u32
-    ensures { Only 32 j result }
-{
-    if j < 32 { 1 << j } else { 0 }
-}
+    ghost number = { λ m. m };
 
-// m and j; j is left out from 32 on.
-pub fn with(m: u32, j: u8) -> u32
-    ensures { With 32 m j result }
-{
-    m | only(j)
-}
-
-// m without j.
-pub fn without(m: u32, j: u8) -> u32
-    ensures { Without m j result }
-{
-    m ^ (m & only(j))
-}
-
-// The highest in m.
-pub fn highest(m: u32) -> Option<u8>
-    ensures { MatchOption result (Empty m) (λ j. Highest 32 m j) }
-{
-    if m == 0 {
-        None
-    } else {
-        Some((31 - m.leading_zeros()) as u8)
+    #[tactic(auto, using(crate::proofs::Words::only_shifted, crate::proofs::Words::only_nothing))]
+    fn only(j: u8) -> u32 {
+        if j < 32 { 1 << j } else { 0 }
     }
-}
 
-// How many are in m.
-pub fn count(m: u32) -> u32
-    ensures { result ≡ size 32 m }
-{
-    m.count_ones()
-}
+    #[tactic(auto, using(crate::proofs::Words::below_shifted, crate::proofs::Words::below_whole))]
+    fn below(n: u8) -> u32 {
+        if n < 32 { (1 << n) - 1 } else { u32::MAX }
+    }
 
-// Whether more than one is in m.
-pub fn several(m: u32) -> bool
-    ensures { Decides result (1 < size 32 m) }
-{
-    count(m) > 1
-}
+    #[tactic(auto, using(crate::proofs::Words::pick_same, crate::proofs::Words::pick_alone))]
+    fn pick(self, j: u8) -> u32 {
+        self & u32::only(j)
+    }
 
-// Whether some number is in both.
-pub fn meets(a: u32, b: u32) -> bool
-    ensures { Decides result ((j : ℕ) × Has a j × Has b j) }
-{
-    a & b != 0
-}
+    #[tactic(auto, using(crate::proofs::Words::empty_decides))]
+    fn is_empty(self) -> bool {
+        self == 0
+    }
 
-// What is in a or in b.
-pub fn union(a: u32, b: u32) -> u32
-    ensures { (j : ℕ) → bit result j ≡ max (bit a j) (bit b j) }
-{
-    a | b
-}
+    #[tactic(auto, using(crate::proofs::Words::lowest_32))]
+    fn bottom(self) -> u8 {
+        self.trailing_zeros() as u8
+    }
 
-// What is in a and not in b.
-pub fn minus(a: u32, b: u32) -> u32
-    ensures { (j : ℕ) → bit result j ≡ bit a j - bit b j }
-{
-    a ^ (a & b)
+    #[tactic(auto, using(crate::proofs::Words::highest_32))]
+    fn top(self) -> u8 {
+        31u32.saturating_sub(self.leading_zeros()) as u8
+    }
+
+    #[tactic(auto, using(crate::proofs::Sizes::ones_size))]
+    fn count(self) -> u32 {
+        self.count_ones()
+    }
+
+    ghost can_bitand_law = { Prim.search rules };
+
+    ghost bitand_law = { Prim.search rules };
+
+    ghost can_bitor_law = { Prim.search rules };
+
+    ghost bitor_law = { Prim.search rules };
+
+    ghost can_bitxor_law = { Prim.search rules };
+
+    ghost bitxor_law = { Prim.search rules };
 }

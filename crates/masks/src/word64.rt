@@ -1,56 +1,59 @@
 // Sets of numbers below 64.
-ghost use Rattle.std.specs.Prelude.{◌≡◌, ℕ, max, Decides, MatchOption};
-ghost use Rattle.masks.specs.Masks.{bit, Has, Empty, Only, With, Without, Lowest, size};
+ghost use Rattle.std.proofs.Common.{rules};
 
-// Whether j is in m.
-pub fn has(m: u64, j: u8) -> bool
-    ensures { Decides result (Has m j) }
-{
-    j < 64 && (m >> j) % 2 == 1
-}
+use super::word::Word;
 
-// The set of j alone; nothing from 64 on.
-pub fn only(j: u8) -> u64
-    ensures { Only 64 j result }
-{
-    if j < 64 { 1 << j } else { 0 }
-}
+// Each type has its own methods for what the machine does, and only here is it known that a number fits the width; so
+// these bodies stand once for each width.
+impl Word for u64 {
+    ghost width = { 64 };
 
-// m and j; j is left out from 64 on.
-pub fn with(m: u64, j: u8) -> u64
-    ensures { With 64 m j result }
-{
-    m | only(j)
-}
+    ghost number = { λ m. m };
 
-// m without j.
-pub fn without(m: u64, j: u8) -> u64
-    ensures { Without m j result }
-{
-    m ^ (m & only(j))
-}
-
-// The lowest in m.
-pub fn lowest(m: u64) -> Option<u8>
-    ensures { MatchOption result (Empty m) (λ j. Lowest 64 m j) }
-{
-    if m == 0 {
-        None
-    } else {
-        Some(m.trailing_zeros() as u8)
+    #[tactic(auto, using(crate::proofs::Words::only_shifted, crate::proofs::Words::only_nothing))]
+    fn only(j: u8) -> u64 {
+        if j < 64 { 1 << j } else { 0 }
     }
-}
 
-// How many are in m.
-pub fn count(m: u64) -> u32
-    ensures { result ≡ size 64 m }
-{
-    m.count_ones()
-}
+    #[tactic(auto, using(crate::proofs::Words::below_shifted, crate::proofs::Words::below_whole))]
+    fn below(n: u8) -> u64 {
+        if n < 64 { (1 << n) - 1 } else { u64::MAX }
+    }
 
-// What is in a or in b.
-pub fn union(a: u64, b: u64) -> u64
-    ensures { (j : ℕ) → bit result j ≡ max (bit a j) (bit b j) }
-{
-    a | b
+    #[tactic(auto, using(crate::proofs::Words::pick_same, crate::proofs::Words::pick_alone))]
+    fn pick(self, j: u8) -> u64 {
+        self & u64::only(j)
+    }
+
+    #[tactic(auto, using(crate::proofs::Words::empty_decides))]
+    fn is_empty(self) -> bool {
+        self == 0
+    }
+
+    #[tactic(auto, using(crate::proofs::Words::lowest_64))]
+    fn bottom(self) -> u8 {
+        self.trailing_zeros() as u8
+    }
+
+    #[tactic(auto, using(crate::proofs::Words::highest_64))]
+    fn top(self) -> u8 {
+        63u32.saturating_sub(self.leading_zeros()) as u8
+    }
+
+    #[tactic(auto, using(crate::proofs::Sizes::ones_size))]
+    fn count(self) -> u32 {
+        self.count_ones()
+    }
+
+    ghost can_bitand_law = { Prim.search rules };
+
+    ghost bitand_law = { Prim.search rules };
+
+    ghost can_bitor_law = { Prim.search rules };
+
+    ghost bitor_law = { Prim.search rules };
+
+    ghost can_bitxor_law = { Prim.search rules };
+
+    ghost bitxor_law = { Prim.search rules };
 }

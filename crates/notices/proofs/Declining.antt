@@ -22,3 +22,6 @@ module _ (m : Meaning) (ns : List Notice) (n : Notice) where
 
   pub lift_own : (Unoffered m n → ⊥) → Own n → Declines (LiftSentences m ns n) OneComponent
   lift_own u h = declines_later _ _ _ _ u (declines_here OneComponent (Own n) _ (after_says _ _ _ _ (lit< tt) (after_silent _)) h)
+
+-- how both calls decline by their first two sentences
+pub ruleset early = (file_unoffered, file_own, lift_unoffered, lift_own)

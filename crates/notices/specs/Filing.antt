@@ -1,7 +1,7 @@
-use Rattle.std.specs.Prelude.{◌≡◌, ◌≤◌, true, false, ◌⊎◌, List, [], ◌∷◌, ◌++◌, length, Result}
+use Rattle.std.specs.Prelude.{◌≡◌, ◌≤◌, true, false, ◌⊎◌, List, [], ◌∷◌, ◌++◌, length, Result, MatchResult}
 use Rattle.archive.specs.Meaning.{Meaning}
 use Rattle.archive.specs.declared.choice.Choice.{Choice}
-use Rattle.refusals.specs.Refusals.{says, silent, Ends}
+use Rattle.refusals.specs.Refusals.{says, silent, Declines, Ends}
 use Rattle.refusals.specs.declared.Refusal.{Refusal}
 use Rattle.refusals.specs.declared.Refusal.TheVariants.{NotOffered, OneComponent, AlreadyFiled, NotFiled, NoticesFull}
 use Rattle.notices.specs.Notices.{filed, lifted}
@@ -29,6 +29,10 @@ FileSentences m ns n = says NotOffered (Unoffered m n) (says OneComponent (Own n
 -- and when lifting one is
 abbrev pub LiftSentences : Meaning → List Notice → Notice → Refusal → Type 0
 LiftSentences m ns n = says NotOffered (Unoffered m n) (says OneComponent (Own n) (says NotFiled (filed ns n ≡ false) silent))
+
+-- what both calls test first: both decline by the refusal, or neither does by the first two sentences
+abbrev pub Admits : Meaning → List Notice → Notice → Result Unit Refusal → Type 0
+Admits m ns n r = MatchResult r (λ _. ¬ Unoffered m n × ¬ Own n) (λ e. Declines (FileSentences m ns n) e × Declines (LiftSentences m ns n) e)
 
 -- what filing answers and which notices it leaves: one more at the end
 abbrev pub Files : Meaning → List Notice → Notice → Result Unit Refusal → List Notice → Type 0

@@ -1,12 +1,13 @@
 use Rattle.std.specs.Prelude.{◌≡◌, ℕ, false, not, ◌&&◌, ◌||◌, List, ◌==◌, refl}
 use Rattle.std.proofs.Common.{ap, ◌∙◌, arith}
+use Rattle.std.specs.List.{list_any}
+use Rattle.std.proofs.lemmas.List.Folds.{list_any_none}
 use Rattle.std.proofs.lemmas.Bool.{eq-eqb}
 use Rattle.std.proofs.lemmas.Bool.Decides.{nat_tests}
 use Rattle.archive.specs.Choices.{names_both}
 use Rattle.archive.specs.Meaning.{Meaning, Sound}
 use Rattle.archive.proofs.Naming.{both_swap}
-use Rattle.tables.specs.Any.{any}
-use Rattle.tables.proofs.Anys.{any_none, any_same}
+use Rattle.tables.proofs.Anys.{any_same}
 use Rattle.notices.specs.Notices.{bars, bars_pair, noticed}
 use Rattle.notices.specs.declared.notice.Notice.{Notice}
 use Rattle.notices.specs.declared.notice.Notice.TheVariants.{Single, Pair}
@@ -28,8 +29,8 @@ noticed_sound m ns h = record {
   few_components = h.few_components;
   few_releases = h.few_releases;
   none_past = h.none_past;
-  withdrawn_past = λ c r p. ap (λ z. z || any (bars c r) ns) (h.withdrawn_past c r p);
-  clash_past = λ a i b j p. ap (λ z. z || any (bars_pair a i b j) ns) (h.clash_past a i b j p);
-  own = λ c i j p q. ap (λ z. z || any (bars_pair c i c j) ns) (h.own c i j p q) ∙ any_none (bars_pair c i c j) (own_pair c i j) ns;
-  symmetric = λ a i b j. ap (λ z. z || any (bars_pair a i b j) ns) (h.symmetric a i b j) ∙ ap (λ z. m.clash b j a i || z) (any_same (bars_pair a i b j) (bars_pair b j a i) (pair_swap a i b j) ns);
+  withdrawn_past = λ c r p. ap (λ z. z || list_any (bars c r) ns) (h.withdrawn_past c r p);
+  clash_past = λ a i b j p. ap (λ z. z || list_any (bars_pair a i b j) ns) (h.clash_past a i b j p);
+  own = λ c i j p q. ap (λ z. z || list_any (bars_pair c i c j) ns) (h.own c i j p q) ∙ list_any_none (bars_pair c i c j) ns (λ k n l. own_pair c i j _);
+  symmetric = λ a i b j. ap (λ z. z || list_any (bars_pair a i b j) ns) (h.symmetric a i b j) ∙ ap (λ z. m.clash b j a i || z) (any_same (bars_pair a i b j) (bars_pair b j a i) (pair_swap a i b j) ns);
 }

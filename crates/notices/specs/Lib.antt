@@ -1,4 +1,3 @@
 pub mod Notices
 pub mod Filing
-pub mod Places
 pub mod Layering

@@ -1,7 +1,7 @@
 use Rattle.std.specs.Prelude.{ℕ, Bool, false, cond, not, ◌&&◌, ◌||◌, List, [], ◌∷◌, ◌==◌}
 use Rattle.archive.specs.Choices.{names, names_both}
 use Rattle.archive.specs.Meaning.{Meaning}
-use Rattle.tables.specs.Any.{any}
+use Rattle.std.specs.List.{list_any}
 use Rattle.notices.specs.declared.notice.Notice.{Notice}
 use Rattle.notices.specs.declared.notice.Notice.TheVariants.{Single, Pair}
 
@@ -20,8 +20,8 @@ abbrev pub noticed : Meaning → List Notice → Meaning
 noticed m ns = record {
   components = m.components;
   releases = m.releases;
-  withdrawn = λ c r. m.withdrawn c r || any (bars c r) ns;
-  clash = λ a i b j. m.clash a i b j || any (bars_pair a i b j) ns;
+  withdrawn = λ c r. m.withdrawn c r || list_any (bars c r) ns;
+  clash = λ a i b j. m.clash a i b j || list_any (bars_pair a i b j) ns;
 }
 
 -- the two notices are one, a pair read in either order
@@ -33,7 +33,7 @@ alike (Pair x y) (Pair u v) = names_both x y u.component u.release v.component v
 
 -- the notice is among those filed
 abbrev pub filed : List Notice → Notice → Bool
-filed ns n = any (alike n) ns
+filed ns n = list_any (alike n) ns
 
 -- the list with the notice taken out and the gap closed
 abbrev pub lifted : Notice → List Notice → List Notice

@@ -1,9 +1,8 @@
 // The notice layer: an archive over any archive.
 ghost use Rattle.std.specs.Prelude.{◌≡◌, [], Decides};
-ghost use Rattle.notices.specs.Filing.{Missing, Unoffered, Files, Lifts};
-ghost use Rattle.notices.specs.Notices.{bars, bars_pair, filed, noticed};
-ghost use Rattle.notices.specs.Places.{Place};
-ghost use Rattle.tables.specs.Any.{any};
+ghost use Rattle.std.specs.List.{list_any, position};
+ghost use Rattle.notices.specs.Filing.{Admits, Missing, Unoffered, Files, Lifts};
+ghost use Rattle.notices.specs.Notices.{alike, bars, bars_pair, noticed};
 ghost use Rattle.tables.specs.Held.{held};
 ghost use Rattle.notices.specs.Layering.{noticed_sound};
 
@@ -28,10 +27,7 @@ impl<A: Archive> NoticeLayer<A> {
         ensures below { result.below ≡ below }
         ensures notices { held result.notices ≡ [] }
     {
-        let filler = Notice::Single(Choice {
-            component: 0,
-            release: 0,
-        });
+        let filler = Notice::Single(Choice::new(0, 0));
         NoticeLayer {
             below,
             notices: Table::empty(filler),
@@ -46,29 +42,34 @@ impl<A: Archive> NoticeLayer<A> {
     }
 
     // Adds a notice after those that are filed.
+    #[tactic(auto, using(crate::proofs::Lifting::filed_position, crate::proofs::Declining::file_filed))]
     pub fn file(&mut self, notice: Notice) -> Result<(), Refusal>
         ensures below { self.new.below ≡ self.old.below }
         ensures notices { Files (A.Archive.meaning self.old.below) (held self.old.notices) notice result (held self.new.notices) }
     {
-        if self.misses(notice) {
-            return Err(Refusal::NotOffered);
-        }
-        if notice.of_one_component() {
-            return Err(Refusal::OneComponent);
-        }
-        if self.holds(notice) {
+        self.admit(notice)?;
+        if self.place(notice).is_some() {
             return Err(Refusal::AlreadyFiled);
         }
-        if !self.notices.push(notice) {
-            return Err(Refusal::NoticesFull);
-        }
-        Ok(())
+        self.notices.push(notice).map_err(|_| Refusal::NoticesFull)
     }
 
     // Takes a notice out and closes the gap.
+    #[tactic(auto, using(crate::proofs::Lifting::filed_position, crate::proofs::Lifting::lifted_position))]
     pub fn lift(&mut self, notice: Notice) -> Result<(), Refusal>
         ensures below { self.new.below ≡ self.old.below }
         ensures notices { Lifts (A.Archive.meaning self.old.below) (held self.old.notices) notice result (held self.new.notices) }
+    {
+        self.admit(notice)?;
+        let at = self.place(notice).ok_or(Refusal::NotFiled)?;
+        self.notices.remove(at);
+        Ok(())
+    }
+
+    // What both calls ask of a notice first: its choices are offered, and a pair is of two components.
+    #[tactic(auto, using(crate::proofs::Declining::early))]
+    fn admit(&self, notice: Notice) -> Result<(), Refusal>
+        ensures { Admits (A.Archive.meaning self.now.below) (held self.now.notices) notice result }
     {
         if self.misses(notice) {
             return Err(Refusal::NotOffered);
@@ -76,24 +77,14 @@ impl<A: Archive> NoticeLayer<A> {
         if notice.of_one_component() {
             return Err(Refusal::OneComponent);
         }
-        let Some(at) = self.place(notice) else {
-            return Err(Refusal::NotFiled);
-        };
-        self.notices.remove(at);
         Ok(())
     }
 
     // Where the notice stands among those filed.
     fn place(&self, notice: Notice) -> Option<usize>
-        ensures { Place (held self.now.notices) notice result }
+        ensures { result ≡ position (alike notice) (held self.now.notices) }
     {
-        place_in(self.notices(), notice)
-    }
-
-    fn holds(&self, notice: Notice) -> bool
-        ensures { result ≡ filed (held self.now.notices) notice }
-    {
-        self.place(notice).is_some()
+        self.notices().iter().position(|other| notice.alike(*other))
     }
 
     fn lacks(&self, x: Choice) -> bool
@@ -113,39 +104,18 @@ impl<A: Archive> NoticeLayer<A> {
     }
 }
 
-fn place_in(notices: &[Notice], notice: Notice) -> Option<usize>
-    ensures { Place notices.now notice result }
-{
-    for (k, other) in notices.iter().enumerate() {
-        if notice.alike(*other) {
-            return Some(k);
-        }
-    }
-    None
-}
-
 // Whether some notice bars the choice.
 fn barred(notices: &[Notice], x: Choice) -> bool
-    ensures { result ≡ any (bars x.component x.release) notices.now }
+    ensures { result ≡ list_any (bars x.component x.release) notices.now }
 {
-    for notice in notices {
-        if notice.bars(x) {
-            return true;
-        }
-    }
-    false
+    notices.iter().any(|notice| notice.bars(x))
 }
 
 // Whether some notice bars the pair.
 fn parted(notices: &[Notice], x: Choice, y: Choice) -> bool
-    ensures { result ≡ any (bars_pair x.component x.release y.component y.release) notices.now }
+    ensures { result ≡ list_any (bars_pair x.component x.release y.component y.release) notices.now }
 {
-    for notice in notices {
-        if notice.bars_pair(x, y) {
-            return true;
-        }
-    }
-    false
+    notices.iter().any(|notice| notice.bars_pair(x, y))
 }
 
 impl<A: Archive> Archive for NoticeLayer<A> {

@@ -15,39 +15,30 @@ impl Notice {
     pub(crate) fn bars(self, x: Choice) -> bool
         ensures { result ≡ bars x.component x.release self }
     {
-        match self {
-            Notice::Single(y) => y == x,
-            Notice::Pair(_, _) => false,
-        }
+        matches!(self, Notice::Single(y) if y == x)
     }
 
     pub(crate) fn bars_pair(self, x: Choice, y: Choice) -> bool
         ensures { result ≡ bars_pair x.component x.release y.component y.release self }
     {
-        match self {
-            Notice::Single(_) => false,
-            Notice::Pair(u, v) => x.component != y.component && same_pair(u, v, x, y),
-        }
+        matches!(self, Notice::Pair(u, v) if x.component != y.component && same_pair(u, v, x, y))
     }
 
-    // Whether the two notices are one, a pair read in either order.
+    // Whether the two notices are one, a pair read in either order. It is no `==`: the laws of that would have to be
+    // proved of both orders, and nothing needs them.
     pub(crate) fn alike(self, other: Notice) -> bool
         ensures { result ≡ alike self other }
     {
         match (self, other) {
             (Notice::Single(x), Notice::Single(u)) => x == u,
             (Notice::Pair(x, y), Notice::Pair(u, v)) => same_pair(x, y, u, v),
-            (Notice::Single(_), Notice::Pair(_, _)) => false,
-            (Notice::Pair(_, _), Notice::Single(_)) => false,
+            _ => false,
         }
     }
 
     pub(crate) fn of_one_component(self) -> bool
         ensures { Decides result (Own self) }
     {
-        match self {
-            Notice::Single(_) => false,
-            Notice::Pair(x, y) => x.component == y.component,
-        }
+        matches!(self, Notice::Pair(x, y) if x.component == y.component)
     }
 }

@@ -1,8 +1,11 @@
 // The refusals of all calls.
 #![tactic(auto)]
 
-ghost use Rattle.std.specs.Prelude.{◌≡◌, ◌<◌, Decides};
+ghost use Rattle.std.specs.Prelude.{◌≡◌, ◌<◌, ◌++◌, Some, Decides, codes};
+ghost use Rattle.std.specs.Fmt.{decimal};
 ghost use Rattle.refusals.specs.Refusals.{numbered, place, NumbersTellApart, OrderTellsApart};
+
+use std::fmt;
 
 // Why a call declines. docs/REFUSALS.md has each sentence whole, and the calls that meet it.
 #[derive(Clone, Copy, PartialEq, Eq, Debug)]
@@ -36,7 +39,7 @@ impl Refusal {
         ensures value { result ≡ numbered self }
         ensures told { NumbersTellApart }
     {
-        self as u8
+        u8::from(self)
     }
 
     // Whether a call that could decline for either tries this one first.
@@ -46,11 +49,29 @@ impl Refusal {
         self.turn() < other.turn()
     }
 
-    // Its place in the order of trying; today that is the order of the numbers.
+    // Its place in the order of trying; today that is the order of the numbers. A derived `Ord` would bind it to the
+    // numbers for ever.
+    #[tactic(auto, using(crate::proofs::Declining::place_number, crate::proofs::Declining::order_tells_apart))]
     fn turn(self) -> u8
         ensures value { result ≡ place self }
         ensures told { OrderTellsApart }
     {
         self.number() - 1
+    }
+}
+
+impl From<Refusal> for u8 {
+    ghost from_gives = { λ refusal n. n ≡ numbered refusal };
+
+    fn from(refusal: Refusal) -> u8 {
+        refusal as u8
+    }
+}
+
+impl fmt::Display for Refusal {
+    ghost output = { λ refusal. Some (codes "refusal " ++ decimal (numbered refusal)) };
+
+    fn fmt<W: fmt::Write>(&self, f: &mut fmt::Formatter<W>) -> fmt::Result {
+        write!(f, "refusal {}", self.number())
     }
 }

@@ -1,9 +1,10 @@
 use Rattle.std.proofs.Common.{◌≡◌, ℕ, ◌<◌, ◌≤◌, ◌≢◌, List, length, get_or, set, sym, ap, ◌∙◌, subst, inl, inr, arith}
 use Rattle.std.proofs.lemmas.List.{get_or-set_same, get_or-set_other}
 use Rattle.std.proofs.lemmas.Bool.{cases_eq}
-use Rattle.masks.specs.Masks.{Has, size}
+use Rattle.masks.specs.Masks.{Has, Without, size}
 use Rattle.masks.proofs.Totals.{total_mono, total_less}
-use Rattle.masks.proofs.Sizes.{size_mono}
+use Rattle.masks.proofs.Sizes.{size_mono, size_less}
+use Rattle.masks.proofs.Words.{without_was}
 use Rattle.rows.specs.Rows.{Open, Within, Narrower, weight}
 
 pub weight_mono : (n : ℕ) (a b : List ℕ) → Narrower n a b → weight n a ≤ weight n b
@@ -37,3 +38,7 @@ module _ (n : ℕ) (row : List ℕ) (c m : ℕ) (inside : c < n) (long : n ≤ l
       total_less (λ k. size 32 (get_or (set row c m) k 0)) (λ k. size 32 (get_or row k 0)) n c inside
       (subst (λ (x : ℕ). size 32 x < size 32 (get_or row c 0)) (sym at_same) less)
       (λ k l. size_mono 32 (get_or (set row c m) k 0) (get_or row k 0) (λ j. set_narrower h k j l))
+
+-- a word without one of its members is smaller
+pub taken_less : (w m j r : ℕ) → j < w → Has m j → Without m j r → size w r < size w m
+taken_less w m j r fits has without = size_less w r m j (without_was m j r without) fits has without.gone

@@ -1,6 +1,6 @@
-use Rattle.std.specs.Prelude.{ℕ, ◌<◌, List, slice_index}
+use Rattle.std.specs.Prelude.{ℕ, ◌<◌, ◌⊎◌, List, slice_index}
 use Rattle.archive.specs.Sets.{moved}
-use Rattle.masks.specs.Masks.{Has, total, size}
+use Rattle.masks.specs.Masks.{Has, Empty, total, size}
 use Rattle.rows.specs.Suits.{Suits}
 use Rattle.rows.specs.declared.problem.Problem.{Problem}
 
@@ -36,9 +36,22 @@ Keeps p row other = (s : ℕ → ℕ) → Agrees p s → Within p.components row
 abbrev pub Dead : Problem → List ℕ → Type 0
 Dead p row = (s : ℕ → ℕ) → Agrees p s → Within p.components row s → ⊥
 
+-- x is a component without an open release
+abbrev pub Bare : Problem → List ℕ → ℕ → Type 0
+Bare p row x = (x < p.components) × Empty (slice_index row x)
+
 -- some open release of y is suited by the release r of x
 abbrev pub Supported : Problem → List ℕ → ℕ → ℕ → ℕ → Type 0
 Supported p row y x r = (j : ℕ) × Open row y j × Suits p.suits y j x r
+
+-- y supports each open release
+abbrev pub Supports : Problem → List ℕ → ℕ → Type 0
+Supports p row y = (x r : ℕ) → x < p.components → Open row x r → Supported p row y x r
+
+-- a scan from y marks each component that lost a release; y supports what is still open, unless it is marked itself
+pub record Scanned (p : Problem) (before : List ℕ) (y : ℕ) (after : List ℕ) (changed : ℕ) : Type 0 where
+  pub kept : (k : ℕ) → Has changed k ⊎ ((j : ℕ) → Open before k j → Open after k j)
+  pub supports : Has changed y ⊎ Supports p after y
 
 -- the masks have, for each component, the releases that suit some open release of y
 abbrev pub Support : Problem → List ℕ → ℕ → List ℕ → Type 0

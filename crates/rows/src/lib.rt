@@ -1,6 +1,7 @@
 // What is searched, as tables of masks, and the support scan over a row of open releases.
 #![tactic(auto)]
 
+pub mod preference;
 pub mod problem;
 pub mod suits;
 pub mod support;

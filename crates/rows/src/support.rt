@@ -1,88 +1,102 @@
 // The support scan: arc consistency over a row of open releases.
-ghost use Rattle.std.specs.Prelude.{◌≡◌, ℕ, ◌+◌, ◌<◌, ◌≤◌, max, false, OnSome, slice_index};
-ghost use Rattle.masks.specs.Masks.{bit, size};
-ghost use Rattle.rows.specs.Rows.{Open, Narrower, Keeps, Dead, Support, weight};
+ghost use Rattle.std.specs.Prelude.{◌≡◌, ℕ, ◌+◌, ◌<◌, ◌≤◌, max, OnOk, OnErr, IfOk, IfErr, slice_index};
+ghost use Rattle.masks.specs.Masks.{bit, Has, size};
+ghost use Rattle.rows.specs.Rows.{Narrower, Keeps, Dead, Supports, Scanned, Support, Bare, weight};
 
 use super::Row;
 use super::problem::Problem;
 use super::weights::Weights;
-use masks::{word32, word64};
+use masks::word::Word;
 
-// What a scan from one component came to: the components that lost a release, and the one that lost its last.
+// The component that lost its last open release.
 #[derive(Clone, Copy)]
-struct Struck {
-    changed: u64,
-    emptied: Option<u8>,
-}
+pub struct Emptied(pub u8);
 
 // Adds the releases of the one row to the other.
 fn add(row: &Row, to: &mut Row)
     ensures { (c j : ℕ) → c < 64 → bit (slice_index to.new c) j ≡ max (bit (slice_index to.old c) j) (bit (slice_index row.now c) j) }
 {
-    for c in 0..64usize {
-        to[c] = word32::union(to[c], row[c]);
+    // Tried a `zip`: what the array holds after the loop was missing.
+    for (c, mask) in to.iter_mut().enumerate() {
+        *mask = mask.union(row[c]);
     }
 }
 
-// For each component, the releases that suit some open release of y.
-fn support(p: &Problem, row: &Row, y: u8) -> Row
-    requires { y < p.now.components }
-    ensures { Support p.now row.now y result }
-{
-    let mut masks = [0u32; 64];
-    let mut left = row[y as usize];
-    while let Some(j) = word32::highest(left) {
-        left = word32::without(left, j);
-        add(&p.suits[y as usize].rows[j as usize].masks, &mut masks);
+impl Problem {
+    // For each component, the releases that suit some open release of y.
+    #[tactic(auto, using(crate::proofs::Rows::taken_less))]
+    fn support(&self, row: &Row, y: u8) -> Row
+        requires { y < self.now.components }
+        ensures { Support self.now row.now y result }
+    {
+        let mut masks = [0u32; 64];
+        let mut left = row[y as usize];
+        while let Some(j) = left.highest() {
+            left = left.without(j);
+            add(&self.suits[y as usize].rows[j as usize].masks, &mut masks);
+        }
+        masks
     }
-    masks
-}
 
-// Strikes the releases that suit no open release of y. The whole scan ends where a component loses its last one.
-fn strike(p: &Problem, row: &mut Row, y: u8) -> Struck
-    requires { y < p.now.components }
-    ensures narrower { Narrower p.now.components row.new row.old }
-    ensures keeps { Keeps p.now row.old row.new }
-    ensures dead { OnSome result.emptied (Dead p.now row.old) }
-    ensures falls { size 64 result.changed + weight p.now.components row.new ≤ weight p.now.components row.old }
-{
-    let masks = support(p, row, y);
-    let mut changed = 0;
-    let mut emptied = None;
-    'scan: for x in 0..p.components {
-        let mut lost = word32::minus(row[x as usize], masks[x as usize]);
-        while let Some(r) = word32::highest(lost) {
-            lost = word32::without(lost, r);
-            row[x as usize] = word32::without(row[x as usize], r);
-            changed = word64::with(changed, x);
-            if word32::is_empty(row[x as usize]) {
-                emptied = Some(x);
-                break 'scan;
+    // Strikes the releases that suit no open release of y, and answers which components lost one. The whole scan,
+    // component by component and release by release, is left by a labelled break where a component loses its last one (a
+    // rule of the project).
+    #[tactic(auto, using(crate::proofs::Rows::taken_less))]
+    fn strike(&self, row: &mut Row, y: u8) -> Result<u64, Emptied>
+        requires { y < self.now.components }
+        ensures narrower { Narrower self.now.components row.new row.old }
+        ensures keeps { Keeps self.now row.old row.new }
+        ensures dead { OnErr result (Dead self.now row.old) }
+        ensures bare { IfErr result (λ e. Bare self.now row.new e.0) }
+        ensures falls { IfOk result (λ changed. size 64 changed + weight self.now.components row.new ≤ weight self.now.components row.old) }
+        ensures scanned { IfOk result (λ changed. Scanned self.now row.old y row.new changed) }
+    {
+        let masks = self.support(row, y);
+        let mut changed = 0u64;
+        'scan: {
+            for x in 0..self.components {
+                let mut lost = row[x as usize].minus(masks[x as usize]);
+                while let Some(r) = lost.highest() {
+                    lost = lost.without(r);
+                    row[x as usize] = row[x as usize].without(r);
+                    changed = changed.with(x);
+                    if row[x as usize].is_empty() {
+                        break 'scan Err(Emptied(x));
+                    }
+                }
             }
+            Ok(changed)
         }
     }
-    Struck { changed, emptied }
-}
 
-// Strikes what lacks support, starting from the pending components and going on from each that lost a release. False
-// where a component has lost its last one; it and the one that took it then weigh more.
-pub fn propagate(p: &Problem, row: &mut Row, pending: u64, weights: &mut Weights) -> bool
-    ensures narrower { Narrower p.now.components row.new row.old }
-    ensures keeps { Keeps p.now row.old row.new }
-    ensures dead { result ≡ false → Dead p.now row.old }
-{
-    let mut pending = pending;
-    while let Some(y) = word64::lowest(pending) {
-        pending = word64::without(pending, y);
-        if y < p.components {
-            let struck = strike(p, row, y);
-            if let Some(x) = struck.emptied {
-                weights.raise(x);
-                weights.raise(y);
-                return false;
+    // Strikes what lacks support, starting from the pending components and going on from each that lost a release. Ends
+    // where a component has lost its last one; it and the one that took it then weigh more.
+    #[tactic(auto, using(crate::proofs::Rows::taken_less))]
+    pub fn propagate(
+        &self,
+        row: &mut Row,
+        mut pending: u64,
+        weights: &mut Weights,
+    ) -> Result<(), Emptied>
+        ensures narrower { Narrower self.now.components row.new row.old }
+        ensures keeps { Keeps self.now row.old row.new }
+        ensures supported { OnOk result ((y : ℕ) → y < self.now.components → Has pending y → Supports self.now row.new y) }
+        ensures dead { OnErr result (Dead self.now row.old) }
+        ensures bare { IfErr result (λ e. Bare self.now row.new e.0) }
+    {
+        while let Some(y) = pending.lowest() {
+            pending = pending.without(y);
+            if y < self.components {
+                match self.strike(row, y) {
+                    Ok(changed) => pending = pending.union(changed),
+                    Err(emptied) => {
+                        weights.raise(emptied.0);
+                        weights.raise(y);
+                        return Err(emptied);
+                    }
+                }
             }
-            pending = word64::union(pending, struck.changed);
         }
+        Ok(())
     }
-    true
 }

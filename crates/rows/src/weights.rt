@@ -18,19 +18,18 @@ impl Weights {
     pub fn of(&self, component: u8) -> u32
         ensures { result ≡ slice_index self.now.each component }
     {
-        if component < 64 {
-            self.each[component as usize]
-        } else {
-            0
-        }
+        self.each.get(usize::from(component)).copied().unwrap_or(0)
     }
 
-    // Adds 1 to the component's weight, up to the largest number.
+    // Adds 1 to the component's weight, up to the largest number. (Tried `get_mut`: its contract does not say what the
+    // array holds after a write.)
+    #[tactic(auto, using(std::proofs::lemmas::List::set_past))]
     pub fn raise(&mut self, component: u8)
         ensures { self.new.each ≡ slice_set self.old.each component (min (slice_index self.old.each component + 1) 4294967295) }
     {
         if component < 64 {
-            self.each[component as usize] = self.each[component as usize].saturating_add(1);
+            let weight = &mut self.each[usize::from(component)];
+            *weight = weight.saturating_add(1);
         }
     }
 }

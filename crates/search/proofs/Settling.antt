@@ -4,10 +4,11 @@ use Rattle.masks.specs.Masks.{Has, Only, Without}
 use Rattle.masks.proofs.Words.{without_was, without_stays}
 use Rattle.rows.specs.Rows.{at, Open, Within}
 use Rattle.rows.specs.declared.problem.Problem.{Problem}
+use Rattle.rows.specs.Preference.{Preferred}
 use Rattle.rows.proofs.Rows.{at_same, set_narrower, set_within}
 use Rattle.descent.specs.Judged.{Barren, Nearer}
 use Rattle.descent.specs.declared.found.Found.{Found}
-use Rattle.search.specs.Ranked.{At, Least, Preferred, Settles}
+use Rattle.search.specs.Ranked.{At, Least, Settles}
 
 -- the releases of c that have been tried are in no set at the distance d
 pub record Untried (p : Problem) (row : List ℕ) (d c left : ℕ) : Type 0 where

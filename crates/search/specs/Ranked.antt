@@ -2,7 +2,6 @@ use Rattle.std.specs.Prelude.{◌≡◌, ℕ, ◌<◌, ◌≤◌, ◌⊎◌, Lis
 use Rattle.archive.specs.Sets.{Prefers}
 use Rattle.descent.specs.Judged.{Barren}
 use Rattle.descent.specs.declared.found.Found.{Found}
-use Rattle.masks.specs.Masks.{Has}
 use Rattle.rows.specs.Rows.{at, Within, Agrees, far}
 use Rattle.rows.specs.declared.problem.Problem.{Problem}
 
@@ -21,12 +20,6 @@ pub record Stands (p : Problem) (row : List ℕ) (f : Found) : Type 0 where
 pub record Least (p : Problem) (row : List ℕ) (f : Found) : Type 0 where
   pub stands : Stands p row f
   pub least : Barren p row f.distance
-
--- r, below 32, is in the mask, and a component with the pin prefers it to whatever else is
-pub record Preferred (pin mask r : ℕ) : Type 0 where
-  pub fits : r < 32
-  pub has : Has mask r
-  pub first : (j : ℕ) → Has mask j → (r ≡ j) ⊎ Prefers pin r j
 
 -- f is at the distance d, and no set there has at c what is preferred to its release
 pub record Settles (p : Problem) (row : List ℕ) (d c : ℕ) (f : Found) : Type 0 where

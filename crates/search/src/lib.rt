@@ -6,9 +6,9 @@ ghost use Rattle.std.specs.Option.{MatchOption};
 
 use archive::Archive;
 use bounds::Bound;
+use descent::Descent;
 use descent::found::Found;
 use filling::fill;
-use rows::support::propagate;
 use rows::weights::Weights;
 
 mod first;
@@ -31,12 +31,15 @@ impl<A: Archive, B: Bound> Search<'_, A, B> {
         ensures { MatchOption result (NoneLawful (A.Archive.meaning self.now.archive.now)) (λ f. Chosen (A.Archive.meaning self.now.archive.now) pins.now f) }
     {
         let tables = fill(self.archive, pins);
+        let problem = &tables.problem;
         let mut weights = Weights::even();
         let mut row = tables.opens;
-        if !propagate(&tables.problem, &mut row, EVERYONE, &mut weights) {
-            return None;
-        }
-        let least = least::least(&tables.problem, self.bound, &mut weights, &row)?;
-        Some(first::lead(&tables.problem, self.bound, &mut weights, &row, least))
+        problem.propagate(&mut row, EVERYONE, &mut weights).ok()?;
+        let descent = Descent {
+            problem,
+            bound: self.bound,
+        };
+        let least = least::least(&descent, &mut weights, &row)?;
+        Some(first::lead(&descent, &mut weights, &row, least))
     }
 }

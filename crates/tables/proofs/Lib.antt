@@ -1,3 +1,2 @@
 pub mod Anys
-pub mod Gaps
 pub mod Rows

@@ -35,66 +35,51 @@ impl<T: Copy, const N: usize> Table<T, N> {
         ensures bound { length result.now ≤ N }
     {
         let cells = &self.cells[..];
-        &cells[0..self.filled]
+        &cells[..self.filled]
     }
 
-    // One row more at the end; false, and nothing changed, where the table is full.
-    pub fn push(&mut self, row: T) -> bool
+    // One row more at the end; the row is handed back, and nothing changed, where the table is full.
+    #[tactic(auto, using(std::proofs::lemmas::List::take_more_set))]
+    pub fn push(&mut self, row: T) -> Result<(), T>
         ensures { Pushes self.old row result self.new }
     {
-        if self.len() >= N {
-            return false;
+        if self.filled == N {
+            return Err(row);
         }
-        self.append(row);
-        true
-    }
-
-    // Takes the row at a place out, and closes the gap; false, and nothing changed, where no row is there.
-    pub fn remove(&mut self, at: usize) -> bool
-        ensures { Removes self.old at result self.new }
-    {
-        if at >= self.len() {
-            return false;
-        }
-        self.close_gap(at);
-        true
-    }
-
-    fn len(&self) -> usize
-        ensures value { result ≡ length (held self.now) }
-        ensures bound { result ≤ N }
-    {
-        self.filled
-    }
-
-    fn append(&mut self, row: T)
-        requires { length (held self.old) < N }
-        ensures { held self.new ≡ held self.old ++ row ∷ [] }
-    {
         self.cells[self.filled] = row;
         self.filled += 1;
+        Ok(())
+    }
+
+    // Takes the row at a place out, and closes the gap; none, and nothing changed, where no row is there.
+    pub fn remove(&mut self, at: usize) -> Option<T>
+        ensures { Removes self.old at result self.new }
+    {
+        let row = *self.rows().get(at)?;
+        self.close_gap(at);
+        Some(row)
     }
 
     // The rows behind the ones that are there, as far as there is room.
+    #[tactic(auto, using(crate::proofs::Rows::extended))]
     fn extend(&mut self, rows: &[T])
         ensures { held self.new ≡ take N (held self.old ++ rows.now) }
     {
-        for row in rows {
-            if !self.push(*row) {
-                break;
-            }
-        }
+        let start = self.filled;
+        let fitting = rows.len().min(N - start);
+        let cells = &mut self.cells[..];
+        cells[start..start + fitting].copy_from_slice(&rows[..fitting]);
+        self.filled = start + fitting;
     }
 
     // Moves each row behind the gap one place down.
+    #[tactic(auto, using(crate::proofs::Rows::gap_closed))]
     fn close_gap(&mut self, gap: usize)
         requires { gap < length (held self.old) }
         ensures { held self.new ≡ remove (held self.old) gap }
     {
-        let end = self.filled;
-        for k in gap + 1..end {
-            self.cells[k - 1] = self.cells[k];
-        }
-        self.filled = end - 1;
+        let cells = &mut self.cells[..];
+        cells[gap..self.filled].rotate_left(1);
+        self.filled -= 1;
     }
 }

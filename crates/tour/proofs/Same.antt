@@ -1,21 +1,10 @@
-use Rattle.std.proofs.Common.{◌≡◌, ℕ, zero, suc, ◌<◌, Bool, true, false, not, ◌&&◌, take, sym, refl, subst, inl, inr, arith, lit<}
-use Rattle.std.proofs.lemmas.Bool.{cases_eq, and_parts}
+use Rattle.std.proofs.Common.{◌≡◌, ℕ, zero, suc, ◌<◌, Bool, true, false, not, take, sym, refl, arith, lit<}
 use Rattle.archive.specs.Alike.{Alike}
+use Rattle.archive.proofs.Below.{every, every_at}
 use Rattle.indexes.specs.Components.{releases_of}
 use Rattle.indexes.specs.Ranges.{range_meaning}
 use Rattle.indexes.specs.Pairs.{pair_meaning}
 use Rattle.tour.specs.Example.{components, needs_rows, pair_rows}
-
--- a test of every number below n
-abbrev every : ℕ → (ℕ → Bool) → Bool
-every zero p = true
-every (suc n) p = p n && every n p
-
-every_at : (n : ℕ) (p : ℕ → Bool) → every n p ≡ true → (k : ℕ) → k < n → p k ≡ true
-every_at zero p h k l = absurd (omega arith)
-every_at (suc n) p h k l =
-    let parts = and_parts (p n) (every n p) h in
-    elim (cases_eq k n) [ inl e ↦ subst (λ z. p z ≡ true) (sym e) parts.0 | inr ne ↦ every_at n p parts.1 k (omega arith) ]
 
 abbrev equal : Bool → Bool → Bool
 equal true y = y

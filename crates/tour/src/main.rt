@@ -16,6 +16,7 @@ use indexes::pair::{PairIndex, PairRow};
 use indexes::range::{NeedsRow, RangeIndex};
 use notices::layer::NoticeLayer;
 use notices::notice::Notice;
+use refusals::Refusal;
 use std::cmp::Ordering;
 use std::io;
 
@@ -36,12 +37,6 @@ const SETS: [[u8; 3]; 8] = [
     [1, 0, 0],
     [1, 2, 2],
 ];
-
-fn choice(component: u8, release: u8) -> Choice
-    ensures { result ≡ record { component = component; release = release } }
-{
-    Choice { component, release }
-}
 
 // Boot and shell have two releases, radio has three, the oldest of them withdrawn.
 fn component_rows() -> [ComponentRow; 3]
@@ -64,13 +59,13 @@ fn by_ranges() -> RangeIndex
     ensures { range_means result ≡ range_meaning components needs_rows }
 {
     let radio_needs = NeedsRow {
-        choice: choice(RADIO, 2),
+        choice: Choice::new(RADIO, 2),
         other: BOOT,
         low: 1,
         high: 1,
     };
     let shell_needs = NeedsRow {
-        choice: choice(SHELL, 1),
+        choice: Choice::new(SHELL, 1),
         other: RADIO,
         low: 2,
         high: 2,
@@ -78,24 +73,19 @@ fn by_ranges() -> RangeIndex
     RangeIndex::new(&component_rows(), &[radio_needs, shell_needs])
 }
 
-fn pair(first: Choice, second: Choice) -> PairRow
-    ensures { result ≡ record { first = first; second = second } }
-{
-    PairRow { first, second }
-}
-
 fn by_pairs() -> PairIndex
     ensures { pair_means result ≡ pair_meaning components pair_rows }
 {
     let pairs = [
-        pair(choice(RADIO, 2), choice(BOOT, 0)),
-        pair(choice(RADIO, 0), choice(SHELL, 1)),
-        pair(choice(SHELL, 1), choice(RADIO, 1)),
+        PairRow::new(Choice::new(RADIO, 2), Choice::new(BOOT, 0)),
+        PairRow::new(Choice::new(RADIO, 0), Choice::new(SHELL, 1)),
+        PairRow::new(Choice::new(SHELL, 1), Choice::new(RADIO, 1)),
     ];
     PairIndex::new(&component_rows(), &pairs)
 }
 
 // One index of each kind; they agree on what is offered and barred.
+#[tactic(auto, using(crate::proofs::Same::same_meaning))]
 fn both_indexes() -> (RangeIndex, PairIndex)
     ensures { Alike (range_means result.0) (pair_means result.1) }
 {
@@ -113,8 +103,8 @@ fn print_table(
     layer: &NoticeLayer<PairIndex>,
 ) -> io::Result<()> {
     println!(rt; "{:<6}  {:<10}  {:<10}  layer", "set", "ranges", "pairs")?;
-    for [a, b, c] in SETS {
-        let set = [a, b, c];
+    for set in SETS {
+        let [a, b, c] = set;
         let below = lawful(pairs, &set);
         let above = lawful(layer, &set);
         let by_range = verdict(lawful(ranges, &set));
@@ -126,31 +116,11 @@ fn print_table(
     Ok(())
 }
 
-#[derive(Clone, Copy)]
-enum Call {
-    File(Notice),
-    Lift(Notice),
-}
-
-fn print_calls(
-    rt: &impl Print,
-    layer: &mut NoticeLayer<PairIndex>,
-    calls: &[(&str, Call)],
-) -> io::Result<()> {
-    for (words, call) in calls {
-        let answer = match *call {
-            Call::File(notice) => layer.file(notice),
-            Call::Lift(notice) => layer.lift(notice),
-        };
-        match answer {
-            Ok(()) => println!(rt; "{words}: done")?,
-            Err(refusal) => {
-                let number = refusal.number();
-                println!(rt; "{words}: refusal {number}")?
-            }
-        }
+fn print_answer(rt: &impl Print, call: &str, answer: Result<(), Refusal>) -> io::Result<()> {
+    match answer {
+        Ok(()) => println!(rt; "{call}: done"),
+        Err(refusal) => println!(rt; "{call}: {refusal}"),
     }
-    Ok(())
 }
 
 fn print_order(rt: &impl Print, pinned: &str, pins: &[u8], s: &[u8], t: &[u8]) -> io::Result<()> {
@@ -170,30 +140,19 @@ fn main(rt: HostRuntime) -> io::Result<()> {
     println!(rt; "radio 2 needs boot 1, and shell 1 needs radio 2")?;
     print_table(&rt, &ranges, &pairs, &layer)?;
 
-    let notice = Notice::Pair(choice(SHELL, 1), choice(BOOT, 1));
-    let turned = Notice::Pair(choice(BOOT, 1), choice(SHELL, 1));
-    let filing = [
-        ("file shell 1 with boot 1", Call::File(notice)),
-        ("file boot 1 with shell 1", Call::File(turned)),
-        ("file radio 3", Call::File(Notice::Single(choice(RADIO, 3)))),
-    ];
-    print_calls(&rt, &mut layer, &filing)?;
+    let notice = Notice::Pair(Choice::new(SHELL, 1), Choice::new(BOOT, 1));
+    let turned = Notice::Pair(Choice::new(BOOT, 1), Choice::new(SHELL, 1));
+    let unknown = Notice::Single(Choice::new(RADIO, 3));
+    print_answer(&rt, "file shell 1 with boot 1", layer.file(notice))?;
+    print_answer(&rt, "file boot 1 with shell 1", layer.file(turned))?;
+    print_answer(&rt, "file radio 3", layer.file(unknown))?;
     print_table(&rt, &ranges, &pairs, &layer)?;
 
-    let lifting = [
-        ("lift boot 1 with shell 1", Call::Lift(turned)),
-        ("lift it again", Call::Lift(turned)),
-    ];
-    print_calls(&rt, &mut layer, &lifting)?;
+    print_answer(&rt, "lift boot 1 with shell 1", layer.lift(turned))?;
+    print_answer(&rt, "lift it again", layer.lift(turned))?;
     print_table(&rt, &ranges, &pairs, &layer)?;
 
-    print_order(
-        &rt,
-        "no pins",
-        &[NO_PIN, NO_PIN, NO_PIN],
-        &[0, 1, 0],
-        &[1, 1, 0],
-    )?;
+    print_order(&rt, "no pins", &[NO_PIN; 3], &[0, 1, 0], &[1, 1, 0])?;
     print_order(
         &rt,
         "boot pinned at 0",

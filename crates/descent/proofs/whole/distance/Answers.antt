@@ -1,10 +1,13 @@
-use Rattle.std.proofs.Common.{ℕ, get_or, arith}
-use Rattle.archive.specs.Sets.{moved}
-use Rattle.masks.proofs.Totals.{total_more}
-use Rattle.rows.specs.Rows.{at}
+use Rattle.std.proofs.Common.{rules, tests, ◌∙◌, take, arith}
+use Rattle.std.proofs.lemmas.Iterator.{YieldsList-from_slice, YieldsList-from_zip}
+use Rattle.std.proofs.lemmas.Iterator.Consumers.{YieldsList-from_filter, YieldsList-at, count_from_yields_List}
+use Rattle.descent.proofs.Counts.{is_moved, moves_counted}
 use Rattle.descent.proofs.whole.distance.Goals as goal
 
-pub loop-c-preserved : goal.loop-c-preserved
-loop-c-preserved c =
-    let f : ℕ → ℕ = λ k. moved (get_or c.args.p.now.pins k 0) (at c.args.set.now k) in
-    (omega (arith, c.loop-c.invariant.0, total_more f c.loop-c.c, c.moves-far.ensures.value), omega (arith, c.loop-c.invariant.1, c.moves-far.ensures.one))
+pub returns : goal.returns
+returns c =
+    let problem = c.args.problem.now in
+    count_from_yields_List c.filter.result _ c.count.ensures.ran
+    (YieldsList-from_filter _ is_moved (YieldsList-at c.filter.ensures.source (YieldsList-from_zip (YieldsList-at c.zip.ensures.first (YieldsList-from_slice (take problem.components problem.pins) (cc))) (YieldsList-from_slice c.args.set.now (cc))))
+    c.filter.ensures.closure (λ x r q k. search (rules, tests)))
+    ∙ moves_counted problem.pins c.args.set.now problem.components (omega arith) (omega arith)

@@ -20,7 +20,7 @@ pub loop-c-preserved : goal.loop-c-preserved
 loop-c-preserved c =
     let h = c.in_ok-set.ensures in
     let i : ℕ = c.loop-c.c in
-    let l : i < length c.loop-c.set = omega (arith, c.loop-c.invariant.0, c.loop-c-test.true, c.args.p.now.few) in (
+    let l : i < length c.loop-c.set = omega (arith, c.loop-c.invariant.0, c.loop-c-test.true, c.args.problem.now.few) in (
       length-set c.loop-c.set i c.in_ok-set.field-0 ∙ c.loop-c.invariant.0,
       below_more (λ k. Open c.args.row.now k (at (set c.loop-c.set i c.in_ok-set.field-0) k)) i
           (λ k m. subst (Open c.args.row.now k) (sym (get_or-set_other c.loop-c.set i k c.in_ok-set.field-0 0 (λ e. absurd (omega arith)))) (c.loop-c.invariant.1 k m))

@@ -1,6 +1,0 @@
-use Rattle.std.proofs.Common.{refl}
-use Rattle.examples.proofs.Holding.{worked_examples}
-use Rattle.examples.proofs.worked_examples.Goals as goal
-
-pub returns : goal.returns
-returns c = record { counted = refl; hold = worked_examples }

@@ -1,5 +1,0 @@
-use Rattle.masks.proofs.Words.{with_only}
-use Rattle.masks.proofs.word64.with.Goals as goal
-
-pub returns : goal.returns
-returns c = with_only 64 c.args.m c.args.j c.only.result c.only.ensures

@@ -1,6 +1,0 @@
-use Rattle.std.proofs.Common.{arith}
-use Rattle.masks.proofs.Words.{without_only}
-use Rattle.masks.proofs.word64.without.Goals as goal
-
-pub returns : goal.returns
-returns c = without_only 64 c.args.m c.args.j c.only.result (omega arith) c.only.ensures

@@ -1,9 +1,0 @@
-use Rattle.masks.specs.Masks.{size}
-use Rattle.rows.proofs.Striking.{Gathered}
-use Rattle.rows.proofs.support.support.Given as goal
-
-abbrev pub invariant-loop-j : goal.invariant-loop-j
-invariant-loop-j l = Gathered l.p l.row l.y l.left l.masks
-
-abbrev pub decreases-loop-j : goal.decreases-loop-j
-decreases-loop-j l = size 32 l.left
