@@ -21,11 +21,8 @@ pub fn compare(pins: &[u8], s: &[u8], t: &[u8]) -> Option<Ordering>
     if s.len() != t.len() {
         return None;
     }
-    let order = match first_difference(s, t) {
-        Some(k) => preference(pin_at(pins, k), s[k], t[k]),
-        None => Ordering::Equal,
-    };
-    Some(order)
+    let place = first_difference(s, t);
+    Some(place.map_or(Ordering::Equal, |k| preference(pin_at(pins, k), s[k], t[k])))
 }
 
 // The first place at which two sets of one length differ.

@@ -59,7 +59,7 @@ fn take(left: u64, a: u8, other: Option<u8>) -> u64
     }
 }
 
-// The lowest other pin that clashes with a.
+// The lowest other pin that clashes with a. It stops there; a `filter` would try all.
 #[tactic(auto, using(crate::proofs::Partners::looks, masks::proofs::Sizes::size_lowest))]
 fn find_partner(table: &PinTable, left: u64, a: u8) -> Option<u8>
     ensures { Found result (partner table.now.rows (members left) a) }

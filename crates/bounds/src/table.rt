@@ -4,7 +4,8 @@ ghost use Rattle.bounds.specs.Clashes.{Marks, Clash, Marked};
 
 use masks::word::Word;
 
-// One row of 64 marks for each component's pin. A caller's table may mark a clash in one of the two rows only.
+// One row of 64 marks for each component's pin, in an array, since no memory is allocated (a rule of the project). A
+// caller's table may mark a clash in one of the two rows only.
 #[derive(Clone, Copy)]
 pub struct PinTable {
     pub rows: [u64; 64],
@@ -24,7 +25,7 @@ impl PinTable {
     {
         // `get_mut` was tried, and the proof did not close: after it the array's length is known, and no element.
         if a < 64 && b < 64 {
-            let row = &mut self.rows[usize::from(a)];
+            let row = &mut self.rows[a as usize];
             *row = row.with(b);
         }
     }
@@ -41,6 +42,6 @@ impl PinTable {
     fn marks(&self, a: u8, b: u8) -> bool
         ensures { Decides result (Marks self.now.rows a b) }
     {
-        self.rows.get(usize::from(a)).is_some_and(|row| row.has(b))
+        self.rows.get(a as usize).is_some_and(|row| row.has(b))
     }
 }

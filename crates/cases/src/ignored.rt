@@ -1,22 +1,22 @@
-use super::build::{component, needs};
+use super::build::component;
 use archive::Archive;
 use archive::choice::Choice;
 use indexes::components::ComponentRow;
 use indexes::pair::{PairIndex, PairRow};
-use indexes::range::RangeIndex;
+use indexes::range::{NeedsRow, RangeIndex};
 
 // Each row of these would make 0:0 and 1:0 clash if one of its numbers were another.
 #[test]
 fn needs_rows_that_name_nothing_offered_are_ignored(rt: HostRuntime) {
     let components = [component(2), component(2), component(0)];
     let rows = [
-        needs(Choice::new(0, 2), 1, 1, 0),
-        needs(Choice::new(3, 0), 1, 1, 0),
-        needs(Choice::new(2, 0), 0, 1, 0),
-        needs(Choice::new(0, 0), 3, 1, 0),
-        needs(Choice::new(0, 0), 255, 1, 0),
-        needs(Choice::new(0, 0), 0, 1, 0),
-        needs(Choice::new(1, 1), 1, 1, 0),
+        NeedsRow::new(Choice::new(0, 2), 1, 1, 0),
+        NeedsRow::new(Choice::new(3, 0), 1, 1, 0),
+        NeedsRow::new(Choice::new(2, 0), 0, 1, 0),
+        NeedsRow::new(Choice::new(0, 0), 3, 1, 0),
+        NeedsRow::new(Choice::new(0, 0), 255, 1, 0),
+        NeedsRow::new(Choice::new(0, 0), 0, 1, 0),
+        NeedsRow::new(Choice::new(1, 1), 1, 1, 0),
     ];
     let index = RangeIndex::new(&components, &rows);
     assert!(rt; !index.clash(Choice::new(0, 0), Choice::new(1, 0)));
@@ -92,8 +92,8 @@ fn a_choice_not_offered_is_withdrawn_and_clashes_with_everything(rt: HostRuntime
 #[test]
 fn a_needs_row_leaves_out_what_its_range_does_not_cover(rt: HostRuntime) {
     let rows = [
-        needs(Choice::new(0, 0), 1, 1, 2),
-        needs(Choice::new(0, 1), 1, 1, 0),
+        NeedsRow::new(Choice::new(0, 0), 1, 1, 2),
+        NeedsRow::new(Choice::new(0, 1), 1, 1, 0),
     ];
     let index = RangeIndex::new(&[component(3), component(4)], &rows);
     for (release, outside) in [(0, true), (1, false), (2, false), (3, true)] {

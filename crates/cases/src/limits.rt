@@ -1,8 +1,8 @@
-use super::build::{component, needs};
+use super::build::component;
 use archive::Archive;
 use archive::choice::Choice;
 use indexes::pair::{PairIndex, PairRow};
-use indexes::range::RangeIndex;
+use indexes::range::{NeedsRow, RangeIndex};
 use notices::layer::NoticeLayer;
 use notices::notice::Notice;
 use refusals::Refusal;
@@ -32,11 +32,12 @@ fn a_release_count_above_32_reads_as_32(rt: HostRuntime) {
     }
 }
 
-// Whether a needs row, or a pair row, that stands after so many others makes 0:0 and 1:0 clash.
+// Whether a needs row, or a pair row, that stands after so many others makes 0:0 and 1:0 clash. One function over both
+// would take the rows, their number and the constructor as parameters, and so all that it is about.
 fn needs_row_counts_after(rt: &impl Abort, others: usize) -> bool {
-    let mut rows = [needs(Choice::new(0, 1), 1, 0, 0); 514];
+    let mut rows = [NeedsRow::new(Choice::new(0, 1), 1, 0, 0); 514];
     assert!(rt; others < 514);
-    rows[others] = needs(Choice::new(0, 0), 1, 1, 1);
+    rows[others] = NeedsRow::new(Choice::new(0, 0), 1, 1, 1);
     let index = RangeIndex::new(&[component(2), component(2)], &rows);
     index.clash(Choice::new(0, 0), Choice::new(1, 0))
 }

@@ -1,10 +1,10 @@
-use super::build::{component, needs};
+use super::build::component;
 use archive::choice::Choice;
 use archive::order::{NO_PIN, compare};
 use archive::sets::lawful;
 use indexes::components::ComponentRow;
 use indexes::pair::{PairIndex, PairRow};
-use indexes::range::RangeIndex;
+use indexes::range::{NeedsRow, RangeIndex};
 use std::cmp::Ordering;
 
 #[test]
@@ -25,17 +25,17 @@ fn a_set_needs_one_release_for_every_component(rt: HostRuntime) {
 #[test]
 fn lawful_sets_by_ranges(rt: HostRuntime) {
     let rows = [
-        needs(Choice::new(0, 0), 1, 1, 0),
-        needs(Choice::new(0, 1), 1, 0, 0),
-        needs(Choice::new(0, 2), 1, 0, 1),
-        needs(Choice::new(0, 0), 2, 0, 0),
-        needs(Choice::new(0, 1), 2, 1, 1),
-        needs(Choice::new(0, 2), 2, 2, 2),
-        needs(Choice::new(1, 0), 2, 1, 2),
-        needs(Choice::new(1, 2), 2, 0, 1),
-        needs(Choice::new(2, 0), 1, 1, 2),
-        needs(Choice::new(2, 1), 1, 0, 0),
-        needs(Choice::new(2, 2), 1, 0, 1),
+        NeedsRow::new(Choice::new(0, 0), 1, 1, 0),
+        NeedsRow::new(Choice::new(0, 1), 1, 0, 0),
+        NeedsRow::new(Choice::new(0, 2), 1, 0, 1),
+        NeedsRow::new(Choice::new(0, 0), 2, 0, 0),
+        NeedsRow::new(Choice::new(0, 1), 2, 1, 1),
+        NeedsRow::new(Choice::new(0, 2), 2, 2, 2),
+        NeedsRow::new(Choice::new(1, 0), 2, 1, 2),
+        NeedsRow::new(Choice::new(1, 2), 2, 0, 1),
+        NeedsRow::new(Choice::new(2, 0), 1, 1, 2),
+        NeedsRow::new(Choice::new(2, 1), 1, 0, 0),
+        NeedsRow::new(Choice::new(2, 2), 1, 0, 1),
     ];
     let index = RangeIndex::new(&[component(3), component(3), component(3)], &rows);
     for a in 0..3u8 {

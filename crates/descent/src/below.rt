@@ -50,8 +50,8 @@ impl<B: Bound> Descent<'_, B> {
     ) -> Option<Found>
         ensures { MatchOption result (Barren self.now.problem.now first.now limit) (λ f. Nearer self.now.problem.now first.now limit f) }
     {
-        // A rule of the project: no memory is allocated, the open releases of every depth stand in an array of arrays, and
-        // descent is a loop.
+        // A rule of the project: no memory is allocated, the open releases of every depth stand in an array of arrays
+        // of masks, with nothing else in it, so that what is pending stands beside it, and descent is a loop.
         let mut rows = [[0u32; 64]; 65];
         let mut changed = [0u64; 65];
         rows[0] = *first;

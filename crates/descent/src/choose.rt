@@ -45,6 +45,10 @@ impl Candidate {
     }
 }
 
+// These are functions of a problem, weights and a row, as those of lower.rt and whole.rt of a problem and a row or a
+// set, and no methods of `Descent`: its bound would be a parameter that they never use. A struct of two or three
+// references would say no more.
+
 // The choice at which the row is split. One phase keeps an old pin while it is open; the other extends what was kept,
 // from the newest release down. None where the row is settled.
 pub(super) fn next_choice(problem: &Problem, weights: &Weights, row: &Row) -> Option<Choice>

@@ -9,7 +9,8 @@ pub mod found;
 mod lower;
 mod whole;
 
-// A problem, with the bound that cuts the descents through it.
+// A problem, with the bound that cuts the descents through it. Weights stay beside it: they change with every descent,
+// and no contract has to say that the problem is the same after one.
 #[derive(Drop)]
 pub struct Descent<'a, B> {
     pub problem: &'a Problem,

@@ -26,7 +26,7 @@ fn pin_count(problem: &Problem) -> u32
     ensures { result ≡ pinned problem.now }
 {
     let pins = &problem.pins[..problem.components as usize];
-    pins.iter().filter(|pin| **pin != NO_PIN).count() as u32
+    pins.iter().filter(|&&pin| pin != NO_PIN).count() as u32
 }
 
 // The components whose pins are open in the row.

@@ -28,7 +28,7 @@ fn sole_set(problem: &Problem, row: &Row) -> Option<[u8; 64]>
     ensures { MatchOption result ((s : ℕ → ℕ) → Within problem.now.components row.now s → ⊥) (λ set. Picked problem.now row.now set) }
 {
     let mut set = [0u8; 64];
-    // Tried a `zip` over `iter_mut`: what the array holds after the loop was missing.
+    // Tried `iter_mut` with `zip`, and with `enumerate` and `take`: what the array holds after the loop was missing.
     for c in 0..problem.components {
         set[c as usize] = row[c as usize].highest()?;
     }
@@ -60,6 +60,6 @@ fn distance(problem: &Problem, set: &[u8; 64]) -> u32
     let pins = &problem.pins[..problem.components as usize];
     pins.iter()
         .zip(set)
-        .filter(|(pin, release)| **pin != NO_PIN && **pin != **release)
+        .filter(|&(&pin, &release)| pin != NO_PIN && pin != release)
         .count() as u32
 }

@@ -8,7 +8,8 @@ use masks::word::Word;
 use rows::Row;
 use rows::suits::SuitRows;
 
-// The pins of the components, with what is open and what suits.
+// The pins of the components, with what is open and what suits. Its methods take bytes below 64, as `from_fn` hands
+// them out; a type for these would be packed and unpacked at every entry.
 #[derive(Drop)]
 pub(super) struct Pinned<'a> {
     pub components: u8,

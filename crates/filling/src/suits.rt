@@ -67,7 +67,8 @@ impl<A: Archive> Next<'_, A> {
         }
     }
 
-    // The same for one component b. Clashes with a lower one were asked there, and are read from its rows.
+    // The same for one component b, below 64 (as beside `Pinned`). Clashes with a lower one were asked there, and are
+    // read from its rows.
     fn suiting(&self, release: u8, b: u8) -> u32
         requires { b < 64 }
         ensures { SuitingAt (A.Archive.meaning self.now.opened.now.archive.now) self.now.opened.now.opens self.now.component release b result }

@@ -25,8 +25,8 @@ pub trait ClashRow: Copy + Default {
     fn parts(&self, x: Choice, y: Choice) -> bool
         ensures { result ≡ parts x.component x.release y.component y.release self.now };
 
-    // A row that parts two choices of one component does not count, one that parts two offered choices of two components
-    // does; and it parts them in either order.
+    // A row that parts two choices of one component does not count, one that parts two offered choices of two
+    // components does; and it parts them in either order.
     ghost laws: { (components : List ComponentRow) → Rows Self components (counts components) parts };
 }
 

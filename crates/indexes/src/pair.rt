@@ -42,7 +42,7 @@ impl ClashRow for PairRow {
 pub type PairIndex = Index<PairRow, MAX_PAIRS>;
 
 impl PairIndex {
-    // Keeps the first 64 component rows and the first 1,024 pair rows. Each kind of index has a `new` of its own, since it
+    // Keeps the first 64 component rows and the first 1,024 pair rows. Each kind of index has a `new` of its own, which
     // states the law of its rows.
     pub fn new(components: &[ComponentRow], pairs: &[PairRow]) -> Self
         ensures archive { ⟦<PairIndex as Archive>⟧.meaning result ≡ pair_means result }

@@ -21,6 +21,17 @@ pub struct NeedsRow {
 }
 
 impl NeedsRow {
+    pub fn new(choice: Choice, other: u8, low: u8, high: u8) -> NeedsRow
+        ensures { result ≡ record { choice = choice; other = other; low = low; high = high } }
+    {
+        NeedsRow {
+            choice,
+            other,
+            low,
+            high,
+        }
+    }
+
     // Whether it is a row of x, names y's component and leaves y's release outside.
     fn leaves_out(&self, x: Choice, y: Choice) -> bool
         ensures { result ≡ leaves_out self.now x.component x.release y.component y.release }

@@ -99,6 +99,9 @@ pos_some m some = elim (cases_eq m 0) [ inl e ↦ absurd (some (λ k h. absurd (
 
 -- ---- the highest and the lowest
 
+pub leading_short : (w m : ℕ) → (Empty m → ⊥) → m < 2 ^ w → count_leading_zeros w m < w
+leading_short w m some fits = let t = leading_top w m (pos_some m some) fits in omega (arith, t.1)
+
 highest_leading : (w m : ℕ) → (Empty m → ⊥) → m < 2 ^ w → Highest w m (w - 1 - count_leading_zeros w m)
 highest_leading w m some fits = go (leading_top w m (pos_some m some) fits) where
   go : (i : ℕ) × (count_leading_zeros w m + suc i ≡ w) × (2 ^ i ≤ m) × (m < 2 ^ suc i) → Highest w m (w - 1 - count_leading_zeros w m)

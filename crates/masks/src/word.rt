@@ -31,13 +31,13 @@ pub trait Word: Copy
     fn is_empty(self) -> bool
         ensures { Decides result (Empty (number self)) };
 
-    // The lowest in the word, where it is not empty.
-    fn bottom(self) -> u8
-        ensures { (Empty (number self) → ⊥) → Lowest width (number self) result };
+    // The lowest in the word.
+    fn lowest(self) -> Option<u8>
+        ensures { MatchOption result (Empty (number self)) (λ j. Lowest width (number self) j) };
 
-    // The highest in the word, where it is not empty.
-    fn top(self) -> u8
-        ensures { (Empty (number self) → ⊥) → Highest width (number self) result };
+    // The highest in the word.
+    fn highest(self) -> Option<u8>
+        ensures { MatchOption result (Empty (number self)) (λ j. Highest width (number self) j) };
 
     // How many are in the word.
     fn count(self) -> u32
@@ -64,28 +64,6 @@ pub trait Word: Copy
         ensures { Without (number self) j (number result) }
     {
         self.minus(self.pick(j))
-    }
-
-    // The lowest in the word.
-    fn lowest(self) -> Option<u8>
-        ensures { MatchOption result (Empty (number self)) (λ j. Lowest width (number self) j) }
-    {
-        if self.is_empty() {
-            None
-        } else {
-            Some(self.bottom())
-        }
-    }
-
-    // The highest in the word.
-    fn highest(self) -> Option<u8>
-        ensures { MatchOption result (Empty (number self)) (λ j. Highest width (number self) j) }
-    {
-        if self.is_empty() {
-            None
-        } else {
-            Some(self.top())
-        }
     }
 
     // Whether more than one is in the word.
@@ -118,7 +96,8 @@ pub trait Word: Copy
         self ^ (self & other)
     }
 
-    // The members that pass the test.
+    // The members that pass the test. A closure is code of the caller's, so it has to be required that it may be
+    // called; one that is safe for every byte may.
     #[tactic(auto, using(crate::proofs::Sizes::size_lowest))]
     fn filter<F: Fn(u8) -> bool>(self, test: F) -> Self
         requires { (j : ℕ) → j < width → Has (number self) j → F.pre test j }

@@ -3,8 +3,8 @@ ghost use Rattle.std.proofs.Common.{rules};
 
 use super::word::Word;
 
-// Each type has its own methods for what the machine does, and only here is it known that a number fits the width; so
-// these bodies stand once for each width.
+// What the machine does is a method of each type, and a law of `Word` speaks of any number: only here is it known that
+// the number fits the width. So these bodies stand once for each width.
 impl Word for u64 {
     ghost width = { 64 };
 
@@ -30,14 +30,14 @@ impl Word for u64 {
         self == 0
     }
 
-    #[tactic(auto, using(crate::proofs::Words::lowest_64))]
-    fn bottom(self) -> u8 {
-        self.trailing_zeros() as u8
+    #[tactic(auto, using(crate::proofs::Words::empty_decides, crate::proofs::Words::lowest_64))]
+    fn lowest(self) -> Option<u8> {
+        (self != 0).then(|| self.trailing_zeros() as u8)
     }
 
-    #[tactic(auto, using(crate::proofs::Words::highest_64))]
-    fn top(self) -> u8 {
-        63u32.saturating_sub(self.leading_zeros()) as u8
+    #[tactic(auto, using(crate::proofs::Words::empty_decides, crate::proofs::Words::leading_short, crate::proofs::Words::highest_64))]
+    fn highest(self) -> Option<u8> {
+        (self != 0).then(|| (63 - self.leading_zeros()) as u8)
     }
 
     #[tactic(auto, using(crate::proofs::Sizes::ones_size))]

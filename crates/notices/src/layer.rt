@@ -27,7 +27,7 @@ impl<A: Archive> NoticeLayer<A> {
         ensures below { result.below ≡ below }
         ensures notices { held result.notices ≡ [] }
     {
-        let filler = Notice::Single(Choice::new(0, 0));
+        let filler = Notice::Single(Choice::default());
         NoticeLayer {
             below,
             notices: Table::empty(filler),

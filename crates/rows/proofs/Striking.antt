@@ -5,7 +5,7 @@ use Rattle.masks.proofs.Bits.{bit_cases}
 use Rattle.masks.proofs.Sizes.{size_less, size_with}
 use Rattle.masks.proofs.Words.{nothing, without_was, without_stays, with_stays, union_left, union_right, union_either, minus_has}
 use Rattle.rows.specs.Suits.{Suits, suit_row}
-use Rattle.rows.specs.Rows.{Open, Agrees, Within, Narrower, Keeps, Dead, Supported, Supports, Scanned, Support, weight}
+use Rattle.rows.specs.Rows.{Open, Agrees, Within, Narrower, Keeps, Dead, Supported, Supports, ScannedFrom, Support, weight}
 use Rattle.rows.specs.declared.problem.Problem.{Problem}
 use Rattle.rows.proofs.Rows.{at_same, at_other, set_narrower, set_within, set_weight}
 
@@ -202,7 +202,7 @@ swept_more p masks x start first before row changed lost inside swept narrower s
   keep k (inr f) (inr g) = inr (λ j o. g j (f j o))
 
 -- all have been
-pub swept_all : (p : Problem) (start masks : List ℕ) (y : ℕ) (row : List ℕ) (changed : ℕ) → Support p start y masks → Swept masks p.components start row changed → Scanned p start y row changed
+pub swept_all : (p : Problem) (start masks : List ℕ) (y : ℕ) (row : List ℕ) (changed : ℕ) → Support p start y masks → Swept masks p.components start row changed → ScannedFrom p start y row changed
 swept_all p start masks y row changed support swept = record { kept = swept.kept; supports = at (swept.kept y) } where
   at : Has changed y ⊎ ((j : ℕ) → Open start y j → Open row y j) → Has changed y ⊎ Supports p row y
   at (inl h) = inl h
@@ -216,7 +216,7 @@ Settling p row first pending = (y : ℕ) → y < p.components → Has first y �
 
 -- a component has been scanned from
 pub settling_more : (p : Problem) (before : List ℕ) (first pending y rest : ℕ) (row : List ℕ) (changed more : ℕ) → Settling p before first pending → Without pending y rest
-    → Narrower p.components row before → Scanned p before y row changed → ((j : ℕ) → bit more j ≡ max (bit rest j) (bit changed j)) → Settling p row first more
+    → Narrower p.components row before → ScannedFrom p before y row changed → ((j : ℕ) → bit more j ≡ max (bit rest j) (bit changed j)) → Settling p row first more
 settling_more p before first pending y rest row changed more s w narrower scan union k l h =
     elim (cases_eq k y) [
       | inl e ↦ subst (λ (x : ℕ). Has more x ⊎ Supports p row x) (sym e) (here scan.supports)

@@ -49,7 +49,7 @@ abbrev pub Supports : Problem → List ℕ → ℕ → Type 0
 Supports p row y = (x r : ℕ) → x < p.components → Open row x r → Supported p row y x r
 
 -- a scan from y marks each component that lost a release; y supports what is still open, unless it is marked itself
-pub record Scanned (p : Problem) (before : List ℕ) (y : ℕ) (after : List ℕ) (changed : ℕ) : Type 0 where
+pub record ScannedFrom (p : Problem) (before : List ℕ) (y : ℕ) (after : List ℕ) (changed : ℕ) : Type 0 where
   pub kept : (k : ℕ) → Has changed k ⊎ ((j : ℕ) → Open before k j → Open after k j)
   pub supports : Has changed y ⊎ Supports p after y
 

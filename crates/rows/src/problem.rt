@@ -7,7 +7,8 @@ use bounds::table::PinTable;
 // What is searched: how many components there are, their pins (any bytes, 255 is none), for each component the rows of
 // what suits its choices, and which pins clash. No memory is allocated (a rule of the project), so the arrays have room
 // for all components that there may be. Which bytes are components only the problem at hand says, so what takes one
-// requires that it is below their number; a type for it would have to name the problem.
+// requires that it is below their number; a type for it would have to hold the problem too, and be made at every turn
+// of a loop, and so is no plainer.
 #[derive(Drop)]
 pub struct Problem {
     pub components: u8,

@@ -1,4 +1,4 @@
-// Which releases suit which choice.
+// Which releases suit which choice, in arrays with room for all that there may be, as `Row`.
 
 // For one choice: the releases of each component that suit it.
 #[derive(Clone, Copy)]

@@ -1,7 +1,7 @@
 // The support scan: arc consistency over a row of open releases.
 ghost use Rattle.std.specs.Prelude.{◌≡◌, ℕ, ◌+◌, ◌<◌, ◌≤◌, max, OnOk, OnErr, IfOk, IfErr, slice_index};
 ghost use Rattle.masks.specs.Masks.{bit, Has, size};
-ghost use Rattle.rows.specs.Rows.{Narrower, Keeps, Dead, Supports, Scanned, Support, Bare, weight};
+ghost use Rattle.rows.specs.Rows.{Narrower, Keeps, Dead, Supports, ScannedFrom, Support, Bare, weight};
 
 use super::Row;
 use super::problem::Problem;
@@ -9,7 +9,7 @@ use super::weights::Weights;
 use masks::word::Word;
 
 // The component that lost its last open release.
-#[derive(Clone, Copy)]
+#[derive(Clone, Copy, PartialEq, Eq, Debug)]
 pub struct Emptied(pub u8);
 
 // Adds the releases of the one row to the other.
@@ -39,8 +39,8 @@ impl Problem {
     }
 
     // Strikes the releases that suit no open release of y, and answers which components lost one. The whole scan,
-    // component by component and release by release, is left by a labelled break where a component loses its last one (a
-    // rule of the project).
+    // component by component and release by release, is left by a labelled break where a component loses its last one
+    // (a rule of the project).
     #[tactic(auto, using(crate::proofs::Rows::taken_less))]
     fn strike(&self, row: &mut Row, y: u8) -> Result<u64, Emptied>
         requires { y < self.now.components }
@@ -49,7 +49,7 @@ impl Problem {
         ensures dead { OnErr result (Dead self.now row.old) }
         ensures bare { IfErr result (λ e. Bare self.now row.new e.0) }
         ensures falls { IfOk result (λ changed. size 64 changed + weight self.now.components row.new ≤ weight self.now.components row.old) }
-        ensures scanned { IfOk result (λ changed. Scanned self.now row.old y row.new changed) }
+        ensures scanned { IfOk result (λ changed. ScannedFrom self.now row.old y row.new changed) }
     {
         let masks = self.support(row, y);
         let mut changed = 0u64;

@@ -10,6 +10,9 @@ use rows::Row;
 use rows::preference::preferred;
 use rows::weights::Weights;
 
+// What is required of the set at hand names the row, which narrows from turn to turn: a struct for both would be made
+// anew each turn, and so is no plainer.
+
 // Of the sets within the row as near as the one at hand, one with the most preferred release of component c. Where the
 // set at hand has it, nothing is searched.
 #[tactic(auto, using(rows::proofs::Rows::taken_less))]

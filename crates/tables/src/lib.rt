@@ -46,6 +46,7 @@ impl<T: Copy, const N: usize> Table<T, N> {
         if self.filled == N {
             return Err(row);
         }
+        // Not by `get_mut`, which does not tell what the cells hold after a write.
         self.cells[self.filled] = row;
         self.filled += 1;
         Ok(())

@@ -58,18 +58,8 @@ fn component_rows() -> [ComponentRow; 3]
 fn by_ranges() -> RangeIndex
     ensures { range_means result ≡ range_meaning components needs_rows }
 {
-    let radio_needs = NeedsRow {
-        choice: Choice::new(RADIO, 2),
-        other: BOOT,
-        low: 1,
-        high: 1,
-    };
-    let shell_needs = NeedsRow {
-        choice: Choice::new(SHELL, 1),
-        other: RADIO,
-        low: 2,
-        high: 2,
-    };
+    let radio_needs = NeedsRow::new(Choice::new(RADIO, 2), BOOT, 1, 1);
+    let shell_needs = NeedsRow::new(Choice::new(SHELL, 1), RADIO, 2, 2);
     RangeIndex::new(&component_rows(), &[radio_needs, shell_needs])
 }
 

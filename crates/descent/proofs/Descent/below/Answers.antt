@@ -2,6 +2,8 @@ use Rattle.std.proofs.Common.{◌∙◌, arith, length-set}
 use Rattle.descent.proofs.Stack.{load_pop, dropped, low, split, load_split}
 use Rattle.descent.proofs.Descent.below.Goals as goal
 
+-- by hand: the check does not guess which rows of the stack, before and after, the lemmas on it are about
+
 pub loop-height-smaller-in-Barred : goal.loop-height-smaller-in-Barred
 loop-height-smaller-in-Barred g c = load_pop _ _ _ c.loop-height-test.true
 

@@ -2,6 +2,8 @@ use Rattle.std.proofs.Common.{arith}
 use Rattle.descent.proofs.Pins.{kept_group, pins_moved}
 use Rattle.descent.proofs.Descent.least_moved.Goals as goal
 
+-- by hand: the check does not guess the group of kept pins, to which the law of the bound is applied
+
 pub returns : goal.returns
 returns g c s a w =
     let opens = c.open_pins-open.ensures in

@@ -2,6 +2,8 @@ use Rattle.std.proofs.Common.{get_or, arith}
 use Rattle.masks.proofs.Sizes.{size_empty}
 use Rattle.descent.proofs.choose.next_choice.Goals as goal
 
+-- by hand: the check does not count the members of a word that has none
+
 -- a component with two open releases prefers one
 pub returns-in_err-release : goal.returns-in_err-release
 returns-in_err-release c =

@@ -6,6 +6,8 @@ use Rattle.descent.proofs.Counts.{none_kept}
 use Rattle.descent.proofs.Options.{is_some_and, if_some}
 use Rattle.descent.proofs.choose.next_component.Goals as goal
 
+-- by hand: the check does not follow a filtered and mapped range to the place that the least candidate came from
+
 -- no candidate came, so the filter kept no component
 pub returns-in_err-min_by : goal.returns-in_err-min_by
 returns-in_err-min_by c =

@@ -3,6 +3,8 @@ use Rattle.std.proofs.lemmas.Iterator.{YieldsList-from_range, cases_from_all}
 use Rattle.descent.proofs.Alike.{SuitsEach, each_suits}
 use Rattle.descent.proofs.whole.agrees.Goals as goal
 
+-- by hand: the check does not turn a test of all numbers of a range into one of pairs of choices
+
 pub returns : goal.returns
 returns c =
     let problem = c.args.problem.now in

@@ -4,6 +4,8 @@ use Rattle.std.proofs.lemmas.Iterator.Consumers.{YieldsList-from_filter, YieldsL
 use Rattle.descent.proofs.Counts.{is_moved, moves_counted}
 use Rattle.descent.proofs.whole.distance.Goals as goal
 
+-- by hand: the check does not turn a count over two lists side by side into a sum over places
+
 pub returns : goal.returns
 returns c =
     let problem = c.args.problem.now in

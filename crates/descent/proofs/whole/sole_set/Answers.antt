@@ -5,6 +5,8 @@ use Rattle.rows.specs.Rows.{at, Open}
 use Rattle.rows.proofs.Blank.{blank_at}
 use Rattle.descent.proofs.whole.sole_set.Goals as goal
 
+-- by hand: the check does not go from the entries written so far to all entries
+
 pub loop-c-init : goal.loop-c-init
 loop-c-init c = (refl, λ k l. absurd (omega arith), λ k. omega (arith, blank_at 64 k), λ k l. blank_at 64 k)
 

@@ -6,6 +6,8 @@ use Rattle.descent.proofs.Alike.{sole, alike_agrees, alike_far}
 use Rattle.descent.proofs.Options.{if_less}
 use Rattle.descent.proofs.whole.whole.Goals as goal
 
+-- by hand: the check does not guess that a set within a settled row is its one set
+
 pub returns-in_err-set : goal.returns-in_err-set
 returns-in_err-set c = rw c.from_residual.ensures (λ s a w. absurd (c.in_err-set.ensures s w))
 

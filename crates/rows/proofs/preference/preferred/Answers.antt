@@ -3,6 +3,8 @@ use Rattle.std.proofs.lemmas.Bool.{cases_eq}
 use Rattle.masks.proofs.Bits.{has_below}
 use Rattle.rows.proofs.preference.preferred.Goals as goal
 
+-- by hand: the check does not build the record of what a component prefers
+
 pub returns-then-has : goal.returns-then-has
 returns-then-has c =
     let o = c.has.ensures.0 c.if-has.true in

@@ -3,6 +3,8 @@ use Rattle.std.specs.Result.{result_ok}
 use Rattle.search.proofs.Linking.{dead_none, row_dead_none, chosen}
 use Rattle.search.proofs.Search.first_least.Goals as goal
 
+-- by hand: the check does not carry an answer about the problem over to the archive that it was made from
+
 -- what is said of the error, where there is no value
 of_error : {A E : Type 0} (r : Result A E) (P : Type 0) → result_ok r ≡ None → OnErr r P → P
 of_error (Ok x) P none h = cc

@@ -4,6 +4,8 @@ use Rattle.search.proofs.Standing.{far_few}
 use Rattle.search.proofs.Settling.{found_one, untried_less}
 use Rattle.search.proofs.first.settle.Goals as goal
 
+-- by hand: the check does not guess which rows and sets the lemmas on what was tried are about
+
 pub overflow_add-limit : goal.overflow_add-limit
 overflow_add-limit g c =
     let problem = c.args.descent.now.problem.now in

@@ -3,6 +3,8 @@ use Rattle.filling.specs.Filled.{PartedFrom}
 use Rattle.filling.proofs.Entries.{made}
 use Rattle.filling.proofs.pins.Pinned.table.Goals as goal
 
+-- by hand: the check does not go from the calls of a closure to the entries that `from_fn` makes
+
 pub returns : goal.returns
 returns c a b la lb =
     let p = c.args.self.now in

@@ -3,6 +3,8 @@ use Rattle.filling.specs.Filled.{SuitingAt}
 use Rattle.filling.proofs.Entries.{made}
 use Rattle.filling.proofs.suits.Next.row.Goals as goal
 
+-- by hand: the check does not go from the calls of a closure to the entries that `from_fn` makes
+
 pub returns : goal.returns
 returns g c = record {
   suiting = λ h b l.

@@ -5,6 +5,8 @@ use Rattle.filling.proofs.Entries.{made}
 use Rattle.filling.proofs.Filling.{open_offered}
 use Rattle.filling.proofs.suits.Next.rows.Goals as goal
 
+-- by hand: the check does not go from the calls of a closure to the entries that `from_fn` makes
+
 pub returns : goal.returns
 returns g c i h =
     let next = c.args.self.now in

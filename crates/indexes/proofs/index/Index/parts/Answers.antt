@@ -5,6 +5,8 @@ use Rattle.indexes.specs.declared.components.ComponentRow.{ComponentRow}
 use Rattle.indexes.specs.Counting.{asked_own, asked_apart}
 use Rattle.indexes.proofs.index.Index.parts.Goals as goal
 
+-- by hand: the check does not apply a lemma to the law of a row kind that is a parameter
+
 pub returns-then-x-y : goal.returns-then-x-y
 returns-then-x-y g c =
     let rows : List ComponentRow = held c.args.self.now.components.rows in

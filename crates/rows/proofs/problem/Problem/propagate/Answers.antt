@@ -4,6 +4,8 @@ use Rattle.rows.proofs.Rows.{taken_less}
 use Rattle.rows.proofs.Striking.{settling_more}
 use Rattle.rows.proofs.problem.Problem.propagate.Goals as goal
 
+-- by hand: the check does not guess which rows and sets, before and after, the lemmas on the scan are about
+
 -- the pending component that was taken is pending no more
 pub loop-y-smaller-in-Ok : goal.loop-y-smaller-in-Ok
 loop-y-smaller-in-Ok c =

@@ -3,6 +3,8 @@ use Rattle.masks.proofs.Sizes.{size_none}
 use Rattle.rows.proofs.Striking.{Swept, striking_none, strike_one, through_more, struck_empty, swept_none, sweeping_none, sweep_one, swept_more, swept_all}
 use Rattle.rows.proofs.problem.Problem.strike.Goals as goal
 
+-- by hand: the check does not guess which rows and sets, before and after, the lemmas on the scan are about
+
 pub loop-x-init : goal.loop-x-init
 loop-x-init c = (
   record {

@@ -3,6 +3,8 @@ use Rattle.rows.proofs.Blank.{blank_at}
 use Rattle.rows.proofs.Striking.{gathered_none, gathered_more}
 use Rattle.rows.proofs.problem.Problem.support.Goals as goal
 
+-- by hand: the check does not guess which rows, before and after, the lemmas on gathering are about
+
 pub loop-j-init : goal.loop-j-init
 loop-j-init c = gathered_none _ _ _ _ refl (blank_at 64)
 
