@@ -1,15 +1,11 @@
 use Rattle.std.proofs.Common.{◌∙◌, arith, length-set}
-use Rattle.descent.proofs.Stack.{load_pop, dropped, low, split, load_split}
+use Rattle.descent.proofs.Stack.{load_pop, low, split, load_split}
 use Rattle.descent.proofs.Descent.below.Goals as goal
 
 -- by hand: the check does not guess which rows of the stack, before and after, the lemmas on it are about
 
 pub loop-height-smaller-in-Barred : goal.loop-height-smaller-in-Barred
 loop-height-smaller-in-Barred g c = load_pop _ _ _ c.loop-height-test.true
-
-pub loop-height-preserved-in-Barred : goal.loop-height-preserved-in-Barred
-loop-height-preserved-in-Barred g c =
-    (dropped _ _ _ _ _ c.loop-height.invariant.0 c.loop-height-test.true c.in-Barred.ensures, c.loop-height.invariant.1)
 
 pub bounds-rows-height-in-Split-2 : goal.bounds-rows-height-in-Split-2
 bounds-rows-height-in-Split-2 g c =

@@ -8,9 +8,6 @@ use Rattle.descent.proofs.whole.whole.Goals as goal
 
 -- by hand: the check does not guess that a set within a settled row is its one set
 
-pub returns-in_err-set : goal.returns-in_err-set
-returns-in_err-set c = rw c.from_residual.ensures (λ s a w. absurd (c.in_err-set.ensures s w))
-
 pub returns-then-not-agrees : goal.returns-then-not-agrees
 returns-then-not-agrees c s a w =
     let e = sole c.args.problem.now c.args.row.now c.in_ok-set.set (λ i. c.fits-row i) c.requires c.in_ok-set.ensures s w in
