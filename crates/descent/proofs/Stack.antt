@@ -1,6 +1,6 @@
 use Rattle.std.proofs.Common.{◌≡◌, ℕ, zero, suc, ◌+◌, ◌-◌, ◌^◌, ◌<◌, ◌≤◌, List, [], length, get_or, set, sym, ap, ◌∙◌, subst, inl, inr, arith}
 use Rattle.std.proofs.lemmas.List.{get_or-set_same, get_or-set_other, length-set}
-use Rattle.std.proofs.lemmas.Bool.{cases_eq, cases_lt}
+use Rattle.std.proofs.lemmas.Bool.{cases_eq}
 use Rattle.archive.specs.declared.choice.Choice.{Choice}
 use Rattle.masks.specs.Masks.{Has, Only, Without, total, size}
 use Rattle.masks.proofs.Sizes.{size_alone}
@@ -9,8 +9,7 @@ use Rattle.masks.proofs.Words.{without_was, without_stays}
 use Rattle.rows.specs.Rows.{at, Open, Within, Agrees, far, Narrower, weight}
 use Rattle.rows.specs.declared.problem.Problem.{Problem}
 use Rattle.rows.proofs.Rows.{weight_mono, set_narrower, set_within, set_weight, taken_less}
-use Rattle.descent.specs.Judged.{Barren, Nearer, Splits}
-use Rattle.descent.specs.declared.found.Found.{Found}
+use Rattle.descent.specs.Judged.{Barren, Splits}
 use Rattle.descent.proofs.Heights.{settled, settled_mono, settled_short, set_settled}
 use Rattle.descent.proofs.Powers.{three_pos, three_less}
 
@@ -35,25 +34,6 @@ load n rows height = total (λ k. 3 ^ weight n (get_or rows k [])) height
 
 -- ---- the first row
 
-pub stacked : (p : Problem) (first : List ℕ) (limit : ℕ) (rows : List (List ℕ)) → length rows ≡ 65 → get_or rows 0 [] ≡ first → length first ≡ 64 → Stack p first limit rows 1
-stacked p first limit rows tall at long = record {
-  tall = tall;
-  under = omega arith;
-  long = λ k l. subst (λ (x : List ℕ). length x ≡ 64) (sym (here k l)) long;
-  deep = λ k l. omega arith;
-  narrow = λ k l c r m o. subst (λ (x : List ℕ). Open x c r) (here k l) o;
-  covers = λ s a w l. (0, omega arith, subst (λ (x : List ℕ). Within p.components x s) (sym at) w);
-} where
-  here : (k : ℕ) → k < 1 → get_or rows k [] ≡ first
-  here k l = let e : k ≡ 0 = omega arith in ap (λ (x : ℕ). get_or rows x []) e ∙ at
-
-pub spent : (p : Problem) (first : List ℕ) (limit : ℕ) (rows : List (List ℕ)) (height : ℕ) → Stack p first limit rows height → height ≡ 0 → Barren p first limit
-spent p first limit rows height st e s agrees within =
-    elim (cases_lt (far p s) limit) [
-      | inl near ↦ let w = st.covers s agrees within near in absurd (omega (arith, w.1))
-      | inr l ↦ l
-    ]
-
 -- ---- a row is dropped
 
 pub load_pop : (n : ℕ) (rows : List (List ℕ)) (H : ℕ) → 0 < H → load n rows (H - 1) < load n rows H
@@ -77,16 +57,6 @@ module _ (p : Problem) (first : List ℕ) (limit : ℕ) (rows : List (List ℕ))
           | inl e ↦ absurd (omega (arith, near, barren s agrees (subst (λ (x : ℕ). Within p.components (get_or rows x []) s) e w.2)))
           | inr ne ↦ (w.0, omega (arith, w.1, ne), w.2)
         ];
-  }
-
-  -- what is found within the top row is within the first
-  pub risen : (f : Found) → Nearer p (get_or rows (H - 1) []) limit f → Nearer p first limit f
-  risen f near = record {
-    within = λ c l. st.narrow (H - 1) (omega arith) c (at f.set c) l (near.within c l);
-    agrees = near.agrees;
-    far_is = near.far_is;
-    under = near.under;
-    rest = near.rest;
   }
 
 -- ---- a row is split

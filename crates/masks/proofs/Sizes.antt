@@ -2,7 +2,7 @@ use Rattle.std.proofs.Common.{◌≡◌, ℕ, zero, suc, ◌+◌, ◌/◌, ◌^�
 use lib.Count.{ones, ones_step}
 use Rattle.std.proofs.lemmas.Nat.{ones-le}
 use Rattle.std.proofs.lemmas.Bool.{cases_order}
-use Rattle.masks.specs.Masks.{bit, Has, Empty, With, Without, Highest, Lowest, total, size}
+use Rattle.masks.specs.Masks.{bit, Has, Empty, With, Without, Lowest, total, size}
 use Rattle.masks.proofs.Bits.{bit_two, bit_cases, bit_none, bit_half, bit_first, has_below}
 use Rattle.masks.proofs.Words.{without_was}
 use Rattle.masks.proofs.Totals.{total_mono, total_less, total_same, total_shift, total_pair, total_lone, total_zero, total_le, total_but, total_sum_le}
@@ -23,10 +23,6 @@ size_less w a b j h l has lacks = total_less (bit a) (bit b) w j l at (λ k _. b
 -- a word that loses its lowest gets smaller
 pub size_lowest : (w m j r : ℕ) → Lowest w m j → Without m j r → size w r < size w m
 size_lowest w m j r low out = size_less w r m j (without_was m j r out) low.fits low.has out.gone
-
--- and one that loses its highest
-pub size_highest : (w m j r : ℕ) → Highest w m j → Without m j r → size w r < size w m
-size_highest w m j r high out = size_less w r m j (without_was m j r out) high.fits high.has out.gone
 
 -- a word of one number at most
 pub size_alone : (w m j : ℕ) → ((k : ℕ) → Has m k → k ≡ j) → size w m ≤ 1

@@ -72,10 +72,6 @@ without_was m j r h k o =
 pub without_stays : (m j r : ℕ) → Without m j r → (k : ℕ) → k ≢ j → Has m k → Has r k
 without_stays m j r h k ne o = h.rest k ne ∙ o
 
--- what is in m with j is j or was in m
-pub with_was : (w m j r : ℕ) → With w m j r → (k : ℕ) → Has r k → Has m k ⊎ (k ≡ j)
-with_was w m j r h k o = elim (cases_eq k j) [ inl e ↦ inr e | inr ne ↦ inl (sym (h.rest k ne) ∙ o) ]
-
 pub with_stays : (w m j r : ℕ) → j < w → With w m j r → (k : ℕ) → Has m k → Has r k
 with_stays w m j r l h k o = elim (cases_eq k j) [ inl e ↦ subst (Has r) (sym e) (h.has l) | inr ne ↦ h.rest k ne ∙ o ]
 

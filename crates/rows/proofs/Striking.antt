@@ -44,9 +44,6 @@ module _ (p : Problem) (row : List ℕ) (y left : ℕ) (masks : List ℕ) (g : G
     from x r l (inl o) = g.sound x r l o
     from x r l (inr s) = (j, g.still j has, s)
 
-  pub gathered_all : Empty left → Support p row y masks
-  gathered_all none x r l = (g.sound x r l, λ h. g.whole x r h.0 l h.1 (none h.0) h.2)
-
 -- ---- the scan
 
 -- some components have been gone through

@@ -5,9 +5,8 @@ use Rattle.masks.specs.Masks.{Has, Only}
 use Rattle.rows.specs.Rows.{at, Open, Narrower, Keeps}
 use Rattle.rows.specs.declared.problem.Problem.{Problem}
 use Rattle.rows.proofs.Rows.{at_same, set_narrower, set_within}
-use Rattle.descent.specs.Judged.{Barren}
 use Rattle.descent.specs.declared.found.Found.{Found}
-use Rattle.search.specs.Ranked.{At, Stands, Least, Settles, Ahead, Leads}
+use Rattle.search.specs.Ranked.{At, Stands, Settles, Ahead}
 
 -- the first c components are fixed in the row, as the best set has them; the other sets at d are in the row or come later
 pub record Fixed (p : Problem) (first : List ℕ) (d c : ℕ) (row : List ℕ) (best : Found) : Type 0 where
@@ -17,22 +16,6 @@ pub record Fixed (p : Problem) (first : List ℕ) (d c : ℕ) (row : List ℕ) (
   pub same : best.distance ≡ d
   pub fixed : (k : ℕ) → k < c → (j : ℕ) → Open row k j → j ≡ at best.set k
   pub leads : (t : ℕ → ℕ) → At p first d t → At p row d t ⊎ Ahead p c (at best.set) t
-
-pub fixed_none : (p : Problem) (first : List ℕ) (f : Found) → length first ≡ 64 → Stands p first f → Fixed p first f.distance 0 first f
-fixed_none p first f long stands = record {
-  long = long;
-  narrow = λ c r l o. o;
-  stands = stands;
-  same = refl;
-  fixed = λ k l. absurd (omega arith);
-  leads = λ t h. inl h;
-}
-
-pub still_least : (p : Problem) (first : List ℕ) (d c : ℕ) (row : List ℕ) (best : Found) → Fixed p first d c row best → Barren p first d → Least p row best
-still_least p first d c row best f barren = record {
-  stands = f.stands;
-  least = λ s agrees within. omega (arith, f.same, barren s agrees (λ k l. f.narrow k (s k) l (within k l)));
-}
 
 module _ (p : Problem) (first : List ℕ) (d c : ℕ) (row : List ℕ) (best : Found) (f : Fixed p first d c row best) (inside : c < p.components)
     (new : Found) (settles : Settles p row best.distance c new)
@@ -103,21 +86,3 @@ module _ (p : Problem) (first : List ℕ) (d c : ℕ) (row : List ℕ) (best : F
     step : (t : ℕ → ℕ) → At p row d t ⊎ Ahead p c (at best.set) t → At p after d t ⊎ Ahead p (c + 1) (at new.set) t
     step t (inl h) = chose t h (settles.best t (at_best t h))
     step t (inr a) = inr (ahead_before t a)
-
--- all are fixed
-pub all_fixed : (p : Problem) (first : List ℕ) (d : ℕ) (row : List ℕ) (best : Found) → Fixed p first d p.components row best → Leads p first d best
-all_fixed p first d row best f = record {
-  stands = record {
-    at_distance = record {
-      agrees = f.stands.at_distance.agrees;
-      within = λ k l. f.narrow k (at best.set k) l (f.stands.at_distance.within k l);
-      far_is = f.stands.at_distance.far_is;
-    };
-    rest = f.stands.rest;
-  };
-  same = f.same;
-  leads = λ t h. ends t (f.leads t h);
-} where
-  ends : (t : ℕ → ℕ) → At p row d t ⊎ Ahead p p.components (at best.set) t → ((c : ℕ) → c < p.components → at best.set c ≡ t c) ⊎ Ahead p p.components (at best.set) t
-  ends t (inl h) = inl (λ c l. sym (f.fixed c l (t c) (h.within c l)))
-  ends t (inr a) = inr a

@@ -15,9 +15,6 @@ pub record Untried (p : Problem) (row : List ℕ) (d c left : ℕ) : Type 0 wher
   pub each : (t : ℕ → ℕ) → At p row d t → Has left (t c)
   pub still : (j : ℕ) → Has left j → Open row c j
 
-pub untried_all : (p : Problem) (row : List ℕ) (d c : ℕ) → c < p.components → Untried p row d c (get_or row c 0)
-untried_all p row d c l = record { each = λ t h. h.within c l; still = λ j h. h }
-
 module _ (p : Problem) (row : List ℕ) (long : length row ≡ 64) (c : ℕ) (inside : c < p.components) (f : Found) (least : Least p row f)
     (left : ℕ) (u : Untried p row f.distance c left) (r : ℕ) (pref : Preferred (get_or p.pins c 0) left r) where
   room : p.components ≤ length row

@@ -3,7 +3,7 @@ use Rattle.archive.specs.Sets.{moved}
 use Rattle.masks.proofs.Totals.{total_le}
 use Rattle.rows.specs.Rows.{Dead, far}
 use Rattle.rows.specs.declared.problem.Problem.{Problem}
-use Rattle.descent.specs.Judged.{Barren, Nearer}
+use Rattle.descent.specs.Judged.{Barren}
 use Rattle.descent.specs.declared.found.Found.{Found}
 use Rattle.search.specs.Ranked.{Stands, Least}
 
@@ -17,12 +17,6 @@ moved_le pin r = go (eqb pin 255) (eqb pin r) where
 -- no set moves more pins than there are components
 pub far_few : (p : Problem) (s : ℕ → ℕ) → far p s ≤ p.components
 far_few p s = omega (arith, total_le (λ c. moved (get_or p.pins c 0) (s c)) p.components 1 (λ c _. moved_le (get_or p.pins c 0) (s c)))
-
-pub nearer_stands : (p : Problem) (row : List ℕ) (limit : ℕ) (f : Found) → Nearer p row limit f → Stands p row f
-nearer_stands p row limit f near = record {
-  at_distance = record { agrees = near.agrees; within = near.within; far_is = near.far_is };
-  rest = near.rest;
-}
 
 -- ---- the least distance: the limit is that of the best so far
 
