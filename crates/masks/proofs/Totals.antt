@@ -49,6 +49,9 @@ total_pair f (suc n) i j l m =
       | inr o ↦ elim o [ inl b ↦ omega (arith, total_pair f n i j l b) | inr b ↦ absurd (omega arith) ]
     ]
 
+pub total_more : (f : ℕ → ℕ) (n : ℕ) → total f (n + 1) ≡ total f n + f n
+total_more f n = let e : n + 1 ≡ suc n = omega arith in ap (total f) e
+
 pub total_zero : (f : ℕ → ℕ) (n : ℕ) → ((k : ℕ) → k < n → f k ≡ 0) → total f n ≡ 0
 total_zero f zero h = refl
 total_zero f (suc n) h = omega (arith, total_zero f n (λ k l. h k (omega arith)), h n (omega arith))

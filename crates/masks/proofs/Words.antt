@@ -1,11 +1,11 @@
-use Rattle.std.proofs.Common.{◌≡◌, ℕ, zero, suc, ◌+◌, ◌-◌, ◌*◌, ◌%◌, ◌^◌, ◌<◌, ◌≤◌, min, max, Bool, true, false, not, eqb, ◌≢◌, ◌⊎◌, Decides, sym, refl, ap, ◌∙◌, subst, inl, inr, pow-suc, arith}
+use Rattle.std.proofs.Common.{◌≡◌, ℕ, zero, suc, ◌+◌, ◌-◌, ◌*◌, ◌/◌, ◌%◌, ◌^◌, ◌<◌, ◌≤◌, min, max, Bool, true, false, not, eqb, nat_lt, ◌≢◌, ◌⊎◌, Decides, sym, refl, ap, ◌∙◌, subst, inl, inr, pow-suc, arith}
 use lib.Bits.{bit_and, bit_or, bit_xor}
 use lib.Count.{count_leading_zeros, count_trailing_zeros}
 use mir.Val.{bits}
 use Rattle.std.specs.Int.{Width, w32, w64}
 use Rattle.std.proofs.lemmas.Nat.{one_shl, leading_top}
 use Rattle.std.proofs.lemmas.Nat.Bits.{bit_at-trailing_zeros}
-use Rattle.std.proofs.lemmas.Bool.{cases_eq, cases_lt, eqb-true, eq-eqb}
+use Rattle.std.proofs.lemmas.Bool.{cases_eq, cases_lt, eqb-true, eq-eqb, ltb-true, lt-ltb}
 use Rattle.masks.specs.Masks.{bit, Has, Empty, Only, With, Without, Below, Highest, Lowest}
 use Rattle.masks.proofs.Bits.{bit_two, bit_cases, bit_of_and, bit_of_or, bit_of_xor, bit_pow_same, bit_pow_other, bit_of_ones, bit_past_ones, bit_none, bit_beyond, has_below, has_pos, top_has}
 
@@ -35,6 +35,15 @@ pick_same w m j x o fits =
 
 pub pick_alone : (w m j x : ℕ) → Only w j x → (k : ℕ) → k ≢ j → bit (bit_and m x) k ≡ 0
 pick_alone w m j x o k ne = omega (arith, bit_of_and m x k, only_other w j x o k ne)
+
+-- ---- whether j is in
+
+pub has_shifted : (m j : ℕ) → Decides (eqb ((m / 2 ^ j) % 2) 1) (Has m j)
+unfolding bit
+has_shifted m j = (eqb-true _ _, eq-eqb _ _)
+
+pub has_past : (w m j : ℕ) → m < 2 ^ w → w ≤ j → Decides (nat_lt j w) (Has m j)
+has_past w m j fits l = (λ t. absurd (omega (arith, ltb-true j w t)), λ h. lt-ltb j w (has_below w m j fits h))
 
 -- ---- the numbers below n
 
@@ -71,6 +80,9 @@ without_was m j r h k o =
 
 pub without_stays : (m j r : ℕ) → Without m j r → (k : ℕ) → k ≢ j → Has m k → Has r k
 without_stays m j r h k ne o = h.rest k ne ∙ o
+
+pub with_was : (w m j r : ℕ) → With w m j r → (k : ℕ) → Has r k → Has m k ⊎ (k ≡ j)
+with_was w m j r h k o = elim (cases_eq k j) [ inl e ↦ inr e | inr ne ↦ inl (sym (h.rest k ne) ∙ o) ]
 
 pub with_stays : (w m j r : ℕ) → j < w → With w m j r → (k : ℕ) → Has m k → Has r k
 with_stays w m j r l h k o = elim (cases_eq k j) [ inl e ↦ subst (Has r) (sym e) (h.has l) | inr ne ↦ h.rest k ne ∙ o ]

@@ -25,6 +25,11 @@ impl Word for u32 {
         self & u32::only(j)
     }
 
+    #[tactic(auto, using(crate::proofs::Words::has_shifted, crate::proofs::Words::has_past))]
+    fn has(self, j: u8) -> bool {
+        j < 32 && (self >> j) % 2 == 1
+    }
+
     #[tactic(auto, using(crate::proofs::Words::empty_decides))]
     fn is_empty(self) -> bool {
         self == 0
