@@ -1,3 +1,5 @@
+pub mod Suiting
 pub mod Ordering
+pub mod Agreeing
 pub mod Naming
 pub mod Below

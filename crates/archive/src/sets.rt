@@ -9,6 +9,7 @@ use super::Archive;
 use super::choice::Choice;
 
 // Whether the set is lawful over the archive, and so over every archive that means alike.
+#[tactic(auto, using(crate::proofs::Agreeing::lawful_alike, crate::proofs::Agreeing::alike_back, crate::proofs::Suiting::lawful_from_suits, crate::proofs::Suiting::suits_from_lawful))]
 pub fn lawful<A: Archive>(archive: &A, set: &[u8]) -> bool
     ensures value { Decides result (Lawful (A.Archive.meaning archive.now) set.now) }
     ensures alike { (m : Meaning) → Alike (A.Archive.meaning archive.now) m → Decides result (Lawful m set.now) }

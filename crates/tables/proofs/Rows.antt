@@ -7,9 +7,16 @@ use borrow.Rule.Slice.PartMut.{put_mid, mid_of, post_of}
 use Rattle.tables.specs.declared.table.Table.{Table}
 use Rattle.tables.specs.Held.{held}
 
--- a table holds at most as many rows as it has room for, and at most m, where it has room for no more
+pub length_held : {T : Type 0} {n : ℕ} (t : Table T n) → length (held t) ≡ t.filled
+length_held t = simp length-take (omega (arith, t.within, t.whole))
+
+-- a table holds at most as many rows as it has room for
+pub held_few : {T : Type 0} {n : ℕ} (t : Table T n) → length (held t) ≤ n
+held_few t = omega (arith, length_held t, t.within)
+
+-- and at most m, where it has room for no more
 pub held_within : {T : Type 0} {n : ℕ} (t : Table T n) (m : ℕ) → n ≤ m → length (held t) ≤ m
-held_within t m h = simp length-take (omega (arith, t.within, h))
+held_within t m h = omega (arith, held_few t, h)
 
 -- the first n - 1 cells, after the part from a up to n is turned by one
 pub gap_closed : {X : Type 0} (xs ys : List X) (a n : ℕ) → a < length (take n xs) → n ≤ length xs → ys ≡ drop 1 (mid_of a (n - a) xs) ++ take 1 (mid_of a (n - a) xs) → take (n - 1) (put_mid a (n - a) xs ys) ≡ remove (take n xs) a
