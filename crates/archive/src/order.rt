@@ -43,5 +43,9 @@ fn pin_at(pins: &[u8], component: usize) -> u8
 fn preference(pin: u8, x: u8, y: u8) -> Ordering
     ensures { MatchOrdering result (Prefers pin x y) (x ≡ y) (Prefers pin y x) }
 {
-    (x != pin).cmp(&(y != pin)).then(y.cmp(&x))
+    match (x == pin, y == pin) {
+        (true, false) => Ordering::Less,
+        (false, true) => Ordering::Greater,
+        _ => y.cmp(&x),
+    }
 }
