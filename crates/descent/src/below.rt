@@ -1,10 +1,13 @@
 // The descent: a stack of rows, one for each depth.
+ghost use Rattle.std.specs.Prelude.{◌≡◌};
 ghost use Rattle.descent.specs.Judged.{Barren, Nearer, Judged};
+ghost use Rattle.descent.specs.Pins.{pinned};
 ghost use Rattle.std.specs.Option.{MatchOption};
 
 use super::Descent;
 use super::choose::next_choice;
 use super::found::Found;
+use super::lower::pin_count;
 use super::whole::whole;
 use archive::choice::Choice;
 use bounds::Bound;
@@ -23,11 +26,19 @@ enum Verdict {
 
 impl<B: Bound> Descent<'_, B> {
     // Narrows the row by the support scan, cuts it by the bound, and says where to split it if it is not settled.
-    fn examine(&self, weights: &mut Weights, row: &mut Row, pending: u64, limit: u32) -> Verdict
+    fn examine(
+        &self,
+        weights: &mut Weights,
+        row: &mut Row,
+        pending: u64,
+        pins: u32,
+        limit: u32,
+    ) -> Verdict
+        requires { pins ≡ pinned self.now.problem.now }
         ensures { Judged self.now.problem.now row.old row.new limit result }
     {
         let narrowed = self.problem.propagate(row, pending, weights);
-        if narrowed.is_err() || self.least_moved(row) >= limit {
+        if narrowed.is_err() || self.least_moved(row, pins) >= limit {
             return Verdict::Barred;
         }
         if let Some(choice) = next_choice(self.problem, weights, row) {
@@ -57,10 +68,12 @@ impl<B: Bound> Descent<'_, B> {
         rows[0] = *first;
         changed[0] = pending;
         let mut height: usize = 1;
+        // Counted once, since no look at a row changes it.
+        let pins = pin_count(self.problem);
         while height > 0 {
             height -= 1;
             let mut row = rows[height];
-            match self.examine(weights, &mut row, changed[height], limit) {
+            match self.examine(weights, &mut row, changed[height], pins, limit) {
                 Verdict::Barred => {}
                 Verdict::Whole(found) => return Some(found),
                 Verdict::Split(x) => {

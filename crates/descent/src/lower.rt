@@ -11,18 +11,20 @@ use rows::Row;
 use rows::problem::Problem;
 
 impl<B: Bound> Descent<'_, B> {
-    // How many pins every agreeing set within the row moves, at least: all less those that can be kept together.
-    pub(super) fn least_moved(&self, row: &Row) -> u32
+    // How many of all the pins every agreeing set within the row moves, at least: all less those that can be kept
+    // together.
+    pub(super) fn least_moved(&self, row: &Row, pins: u32) -> u32
+        requires { pins ≡ pinned self.now.problem.now }
         ensures { Barren self.now.problem.now row.now result }
     {
         let open = open_pins(self.problem, row);
         let kept = self.bound.most_kept(&self.problem.clashing, open);
-        pin_count(self.problem).saturating_sub(kept)
+        pins.saturating_sub(kept)
     }
 }
 
 // How many pins there are.
-fn pin_count(problem: &Problem) -> u32
+pub(super) fn pin_count(problem: &Problem) -> u32
     ensures { result ≡ pinned problem.now }
 {
     let pins = &problem.pins[..problem.components as usize];

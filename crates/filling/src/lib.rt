@@ -5,10 +5,12 @@
 ghost use Rattle.filling.specs.Filled.{Means};
 
 use archive::Archive;
+use bounds::table::PinTable;
 use opened::Opened;
 use pins::Pinned;
 use rows::Row;
 use rows::problem::Problem;
+use suits::NO_ROWS;
 
 mod opened;
 mod pins;
@@ -21,28 +23,32 @@ pub struct Filled {
     pub opens: Row,
 }
 
+// The tables are large: they are made in place, from tables of no components, since each move of them may cost a copy of
+// its own, and room for it on the stack. Zeros alone are set in one go.
 pub fn fill<A: Archive>(archive: &A, pins: &[u8; 64]) -> Filled
     ensures { Means (A.Archive.meaning archive.now) pins.now result }
 {
     let opened = Opened::of(archive);
-    let suits = opened.suits();
-    let Opened {
-        components,
-        opens,
-        ..
-    } = opened;
+    let mut filled = Filled {
+        problem: Problem {
+            components: 0,
+            pins: [0; 64],
+            suits: [NO_ROWS; 64],
+            clashing: PinTable::blank(),
+        },
+        opens: [0; 64],
+    };
+    filled.opens = opened.opens;
+    filled.problem.pins = *pins;
+    opened.suit(&mut filled.problem.suits);
     let pinned = Pinned {
-        components,
+        components: opened.components,
         pins,
-        opens: &opens,
-        suits: &suits,
+        opens: &opened.opens,
+        suits: &filled.problem.suits,
     };
     let clashing = pinned.table();
-    let problem = Problem {
-        components,
-        pins: *pins,
-        suits,
-        clashing,
-    };
-    Filled { problem, opens }
+    filled.problem.clashing = clashing;
+    filled.problem.components = opened.components;
+    filled
 }

@@ -22,18 +22,24 @@ impl<'a, A: Archive> Opened<'a, A> {
     pub fn of(archive: &'a A) -> Self
         ensures { result.archive.now ≡ archive.now }
     {
+        let components = archive.components();
         Opened {
             archive,
-            components: archive.components(),
-            opens: std::array::from_fn(|c| unbarred(archive, c as u8)),
+            components,
+            opens: std::array::from_fn(|c| unbarred(archive, components, c as u8)),
         }
     }
 }
 
-// The releases of a component that are not withdrawn; none past the last component.
-fn unbarred<A: Archive>(archive: &A, component: u8) -> u32
+// The releases of a component that are not withdrawn; none past the last component, for which nothing is asked.
+#[tactic(auto, using(masks::proofs::Words::nothing))]
+fn unbarred<A: Archive>(archive: &A, components: u8, component: u8) -> u32
+    requires { components ≡ (A.Archive.meaning archive.now).components }
     ensures { Free result ((A.Archive.meaning archive.now).withdrawn component) }
 {
+    if component >= components {
+        return 0;
+    }
     let offered = u32::below(archive.releases(component));
     offered.filter(|release| !archive.withdrawn(Choice::new(component, release)))
 }

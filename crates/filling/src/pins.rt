@@ -29,11 +29,15 @@ impl Pinned<'_> {
         }
     }
 
-    // The components whose open pins do not suit the open pin of a.
+    // The components whose open pins do not suit the open pin of a; none where that is not open.
+    #[tactic(auto, using(masks::proofs::Words::nothing))]
     fn row(&self, a: u8) -> u64
         requires { a < 64 }
         ensures { PartedFrom self.now.components self.now.opens.now self.now.pins.now self.now.suits.now a result }
     {
+        if !self.opens[a as usize].has(self.pins[a as usize]) {
+            return 0;
+        }
         u64::below(self.components).filter(|b| self.parted(a, b))
     }
 

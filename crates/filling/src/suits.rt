@@ -13,25 +13,24 @@ use std::cmp::Ordering;
 
 const NO_ROW: SuitRow = SuitRow { masks: [0; 64] };
 
-const NO_ROWS: SuitRows = SuitRows { rows: [NO_ROW; 32] };
+pub(super) const NO_ROWS: SuitRows = SuitRows { rows: [NO_ROW; 32] };
 
 impl<A: Archive> Opened<'_, A> {
     // For each open choice, by component and release, the open releases of each component that do not clash with it.
     // The rows of a component are read for those of the next ones, so this is a loop over components.
-    pub fn suits(&self) -> [SuitRows; 64]
-        ensures { SuitingUpto (A.Archive.meaning self.now.archive.now) self.now.opens self.now.components result }
+    pub fn suit(&self, suits: &mut [SuitRows; 64])
+        ensures { SuitingUpto (A.Archive.meaning self.now.archive.now) self.now.opens self.now.components suits.new }
     {
-        let mut suits = [NO_ROWS; 64];
         for component in 0..self.components {
             let next = Next {
                 // Lent again, as the rows so far are not lent for as long as self is.
                 opened: &*self,
-                lower: &suits,
+                lower: &*suits,
                 component,
             };
-            suits[component as usize] = next.rows();
+            let rows = next.rows();
+            suits[component as usize] = rows;
         }
-        suits
     }
 }
 

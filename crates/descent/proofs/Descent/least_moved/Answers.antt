@@ -9,4 +9,4 @@ returns g c s a w =
     let opens = c.open_pins-open.ensures in
     let reaches = g.met.B.Bound.reaches c.args.self.now.bound.now c.args.self.now.problem.now.clashing.rows c.open_pins-open.result _ (kept_group c.args.self.now.problem.now c.args.row.now c.open_pins-open.result opens s a w) in
     let moved = pins_moved c.args.self.now.problem.now c.args.row.now c.open_pins-open.result opens s a w _ reaches in
-    omega (arith, c.saturating_sub.ensures, c.most_kept-kept.ensures, c.pin_count.ensures, moved)
+    omega (arith, c.saturating_sub.ensures, c.most_kept-kept.ensures, c.requires, moved)

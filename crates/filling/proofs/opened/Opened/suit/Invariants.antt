@@ -1,6 +1,6 @@
 use Rattle.std.proofs.Common.{◌≡◌, length}
 use Rattle.filling.specs.Filled.{SuitingUpto}
-use Rattle.filling.proofs.opened.Opened.suits.Given as goal
+use Rattle.filling.proofs.opened.Opened.suit.Given as goal
 
 abbrev pub invariant-loop-component : goal.invariant-loop-component
 invariant-loop-component g l =
