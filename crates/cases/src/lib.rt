@@ -13,3 +13,5 @@ mod limits;
 mod numbers;
 #[cfg(test)]
 mod sets;
+#[cfg(test)]
+mod words;

@@ -27,10 +27,6 @@ pub trait Word: Copy
         ensures same { bit (number result) j ≡ bit (number self) j }
         ensures alone { (k : ℕ) → k ≢ j → bit (number result) k ≡ 0 };
 
-    // Whether j is in the word.
-    fn has(self, j: u8) -> bool
-        ensures { Decides result (Has (number self) j) };
-
     // Whether nothing is in the word.
     fn is_empty(self) -> bool
         ensures { Decides result (Empty (number self)) };
@@ -46,6 +42,13 @@ pub trait Word: Copy
     // How many are in the word.
     fn count(self) -> u32
         ensures { result ≡ size width (number self) };
+
+    // Whether j is in the word.
+    fn has(self, j: u8) -> bool
+        ensures { Decides result (Has (number self) j) }
+    {
+        !self.pick(j).is_empty()
+    }
 
     // The word with j; j is left out from the width on.
     #[tactic(auto, using(crate::proofs::Words::with_only))]

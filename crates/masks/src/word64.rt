@@ -25,6 +25,7 @@ impl Word for u64 {
         self & u64::only(j)
     }
 
+    // In place of the trait's own body, which makes the set of j before it looks.
     #[tactic(auto, using(crate::proofs::Words::has_shifted, crate::proofs::Words::has_past))]
     fn has(self, j: u8) -> bool {
         j < 64 && (self >> j) % 2 == 1
