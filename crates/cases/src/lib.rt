@@ -1,4 +1,5 @@
-// Tables of cases, with expected values from the rules in docs/ARCHIVES.md and never from a run.
+// Tables of cases, with expected values from the rules in docs/ARCHIVES.md, or for a word from the bits that are set in
+// it, and never from a run.
 #![tactic(auto)]
 
 #[cfg(test)]

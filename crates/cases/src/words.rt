@@ -85,6 +85,7 @@ impl Word for Plain {
 
 #[test]
 fn a_word_has_its_numbers_by_the_body_of_the_trait(rt: HostRuntime) {
+    // Bits 0, 5 and 31.
     let word = Plain(0x8000_0021);
     for j in 0..=255u8 {
         let is_in = j == 0 || j == 5 || j == 31;
